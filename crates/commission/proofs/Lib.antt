@@ -1,0 +1,4 @@
+mod Steps
+mod Naming
+mod Lowering
+mod Alike

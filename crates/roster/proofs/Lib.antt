@@ -1,0 +1,3 @@
+pub mod Filing
+mod Users
+mod Written

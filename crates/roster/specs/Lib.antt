@@ -1,0 +1,5 @@
+pub mod Meaning
+pub mod Pages
+pub mod Slots
+pub mod Sheets
+pub mod Placing

@@ -1,0 +1,5 @@
+pub mod Sums
+pub mod Bytes
+pub mod Back
+pub mod Reading
+pub mod Refusing
