@@ -9,12 +9,13 @@ use commission::Comparison;
 use commission::Side;
 use std::error::AnyError;
 use std::io;
+use std::str::from_utf8;
 
 /// A site under a script, and what the script came to so far.
 #[derive(Drop)]
 pub struct Console {
     site: Site,
-    /// Whether a command other than ROSTER was carried out, or ROSTER itself.
+    /// Whether a command was carried out or refused.
     begun: bool,
     line: u64,
     calls: u64,
@@ -35,8 +36,12 @@ impl Console {
     }
 
     /// Reads one line of the script and answers it.
-    pub fn take(&mut self, rt: &LibcRuntime, text: &str) -> Result<(), AnyError> {
+    pub fn take(&mut self, rt: &LibcRuntime, line: &[u8]) -> Result<(), AnyError> {
         self.line = self.line.saturating_add(1);
+        let Ok(text) = from_utf8(line) else {
+            self.fail(rt, "not UTF-8", "text in UTF-8")?;
+            return Ok(());
+        };
         match read(rt.alloc(), text) {
             Ok(None) => Ok(()),
             Ok(Some(command)) => self.answer(rt, command),

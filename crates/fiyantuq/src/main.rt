@@ -7,8 +7,7 @@ use console::Console;
 use std::env;
 use std::error::AnyError;
 use std::fs;
-use std::io::BufRead;
-use std::io::BufReader;
+use std::io::Read;
 
 const HELP: &str =
     "fiyantuq [FILE ...]: carries out the script in the files, or from standard input.
@@ -19,11 +18,27 @@ One command a line, # starts a comment, numbers are decimal:
   COMMISSION                     do the radio list and the sheets name the same users?
 ";
 
-fn script(rt: &LibcRuntime, file: &str) -> Result<String, AnyError> {
-    match fs::read_to_string(rt, file) {
-        Ok(text) => Ok(text),
+/// The bytes of a file, or why it cannot be read.
+fn script(rt: &LibcRuntime, file: &str) -> Result<Vec<u8>, AnyError> {
+    match fs::read(rt, file) {
+        Ok(bytes) => Ok(bytes),
         Err(error) => Err(format!(rt.alloc(), "cannot read {file}: {error}")?.into()),
     }
+}
+
+/// Has the console take the lines of a script one by one.
+fn carry_out(rt: &LibcRuntime, console: &mut Console, script: &[u8]) -> Result<(), AnyError> {
+    let mut start = 0;
+    for i in 0..script.len() {
+        if script[i] == b'\n' {
+            console.take(rt, &script[start..i])?;
+            start = i + 1;
+        }
+    }
+    if start < script.len() {
+        console.take(rt, &script[start..])?;
+    }
+    Ok(())
 }
 
 fn run(rt: &LibcRuntime) -> Result<(), AnyError> {
@@ -36,14 +51,12 @@ fn run(rt: &LibcRuntime) -> Result<(), AnyError> {
         }
         named = true;
         let script = script(rt, file.as_str())?;
-        for line in script.as_str().lines() {
-            console.take(rt, line)?;
-        }
+        carry_out(rt, &mut console, script.as_slice())?;
     }
     if !named {
-        for line in BufReader::new(rt.stdin()).lines(rt.alloc()) {
-            console.take(rt, line?.as_str())?;
-        }
+        let mut script = Vec::new(rt.alloc());
+        rt.stdin().read_to_end(&mut script)?;
+        carry_out(rt, &mut console, script.as_slice())?;
     }
     console.close(rt)?;
     Ok(())

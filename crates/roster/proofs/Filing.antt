@@ -14,8 +14,8 @@ use Rattle.std.proofs.shelf.Lists.{at-drop-more, map-set, map-push, take-more-s
 use Rattle.std.proofs.shelf.Ways.{tells}
 use Rattle.std.specs.shelf.Maps.{nth}
 use Rattle.mcptt.specs.declared.identity.GroupId.{GroupId}
-use Rattle.roster.specs.Meaning.{among, apart, no-room, with-document, with-group, as-groups}
-use Rattle.roster.specs.Pages.{Filed, groups-in, held-in, place-of}
+use Rattle.roster.specs.Meaning.{among, apart, no-room, with-document, as-groups}
+use Rattle.roster.specs.Pages.{Filed, groups-in, held-in, place-of, with-group}
 
 -- one step of the search for a group's page
 pub find-step : {P : Type 0} (says : P → Filed) (g : ℕ) (ps : List P) (i : ℕ) (p : P) → i < length ps → p ≡ getD ps i p

@@ -31,15 +31,10 @@ no-room most held carried group = not (isSome (held group)) && leb most (length 
 abbrev pub with-document : (ℕ → Option Content) → ℕ → Content → ℕ → Option Content
 with-document held group c g = cond (eqb g group) (Some c) (held g)
 
--- the groups carried once this one is among them: a new one stands at the end
-abbrev pub with-group : List ℕ → ℕ → List ℕ
-with-group carried group = cond (among group carried) carried (carried ++ (group ∷ []))
-
--- a document was put in: what the roster holds and carries before, and after
-pub record Replaced (most : ℕ) (held held′ : ℕ → Option Content) (carried carried′ : List ℕ) (group : ℕ) (c : Content) : Type 0 where
+-- a document was put in: what the roster holds before, and after; its laws tell which groups it then carries
+pub record Replaced (most : ℕ) (held held′ : ℕ → Option Content) (carried : List ℕ) (group : ℕ) (c : Content) : Type 0 where
   pub room : no-room most held carried group ≡ false
   pub documents : (g : ℕ) → held′ g ≡ with-document held group c g
-  pub groups : carried′ ≡ with-group carried group
 
 -- the members of a group's document, in its order; none without a document
 abbrev pub members-in : Option Content → List Member

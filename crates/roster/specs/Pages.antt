@@ -1,10 +1,11 @@
 -- Documents in pages, one page to a group: what a list of pages says.
 use Prim.Native.Nat.{ℕ, zero, suc}
 use mathlib.Core.Bool.{cond}
-use mathlib.Core.List.{List, [], _∷_, map}
+use mathlib.Core.List.{List, [], _∷_, _++_, map}
 use lib.Dec.{eqb}
 use Rattle.std.specs.declared.option.Option.{Option}
 use Rattle.std.specs.declared.option.Option.the-variants.{Some, None}
+use Rattle.roster.specs.Meaning.{among}
 use Rattle.sheet.specs.declared.group_document.GroupDocument.{GroupDocument}
 use Rattle.sheet.specs.Contents.{Content, content}
 
@@ -30,3 +31,7 @@ held-in (p ∷ ps) group = cond (eqb (p .group) group) (Some (p .document)) (hel
 abbrev pub place-of : ℕ → List Filed → ℕ
 place-of group [] = zero
 place-of group (p ∷ ps) = cond (eqb (p .group) group) zero (suc (place-of group ps))
+
+-- the groups of the pages once this one is among them: a new one stands at the end
+abbrev pub with-group : List ℕ → ℕ → List ℕ
+with-group carried group = cond (among group carried) carried (carried ++ (group ∷ []))

@@ -1,8 +1,8 @@
 //! Documents on pages, one to a group: the search, the questions and the replacing, for any kind of page.
 ghost use Prim.Native.Nat.{ℕ, _≤_, _<_};
 ghost use Rattle.mcptt.specs.declared.refusal.Refusal.the-variants.{RosterFull};
-ghost use Rattle.roster.specs.Meaning.{apart, no-room, with-document, with-group, as-groups, members-in, users-in};
-ghost use Rattle.roster.specs.Pages.{groups-in, held-in, place-of};
+ghost use Rattle.roster.specs.Meaning.{apart, no-room, with-document, as-groups, members-in, users-in};
+ghost use Rattle.roster.specs.Pages.{groups-in, held-in, place-of, with-group};
 ghost use Rattle.sheet.specs.Contents.{content};
 ghost use Rattle.sheet.specs.Rules.{names};
 ghost use Rattle.std.specs.Options.{isSome, Cases as BySome};

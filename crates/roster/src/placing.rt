@@ -13,7 +13,7 @@ use sheet::read;
 /// Reads a sheet and puts its document in place of the group's former one, if any. Answers the group,
 /// or refuses with 18, 19 or 20 as the reader does, then 21 as the roster does; then all stays.
 pub fn place_sheet<R: Roster>(roster: &mut R, bytes: &[u8]) -> Result<GroupId, Refusal>
-    ensures { λ r. ⌜ Cases r (λ g. (unplaced (R·Roster .most) (R·Roster .held (now (roster .entry))) (R·Roster .carried (now (roster .entry))) (now (bytes .entry)) ≡ None) × (g .number ≡ group-of (now (bytes .entry))) × Replaced (R·Roster .most) (R·Roster .held (now (roster .entry))) (R·Roster .held (now (roster .exit))) (R·Roster .carried (now (roster .entry))) (R·Roster .carried (now (roster .exit))) (group-of (now (bytes .entry))) (content-of (now (bytes .entry)))) (λ e. (unplaced (R·Roster .most) (R·Roster .held (now (roster .entry))) (R·Roster .carried (now (roster .entry))) (now (bytes .entry)) ≡ Some e) × (now (roster .exit) ≡ now (roster .entry))) ⌝ }
+    ensures { λ r. ⌜ Cases r (λ g. (unplaced (R·Roster .most) (R·Roster .held (now (roster .entry))) (R·Roster .carried (now (roster .entry))) (now (bytes .entry)) ≡ None) × (g .number ≡ group-of (now (bytes .entry))) × Replaced (R·Roster .most) (R·Roster .held (now (roster .entry))) (R·Roster .held (now (roster .exit))) (R·Roster .carried (now (roster .entry))) (group-of (now (bytes .entry))) (content-of (now (bytes .entry)))) (λ e. (unplaced (R·Roster .most) (R·Roster .held (now (roster .entry))) (R·Roster .carried (now (roster .entry))) (now (bytes .entry)) ≡ Some e) × (now (roster .exit) ≡ now (roster .entry))) ⌝ }
 {
     let document = read(bytes)?;
     roster.replace(&document)?;

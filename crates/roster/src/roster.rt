@@ -21,7 +21,7 @@ use sheet::GroupDocument;
 /// the groups that have one: generic code knows a roster by these alone.
 pub trait Roster: Sized {
     /// How many groups it can carry, from 1 to 16. A clause cannot speak of a constant: `most` stands
-    /// for it there, and `room` answers both.
+    /// for it there, and each roster's `room` answers it by this constant.
     const GROUPS: usize;
 
     // how many groups it can carry
@@ -30,7 +30,7 @@ pub trait Roster: Sized {
     // what the document of a group says, if the group has one
     ghost held: { Self → ℕ → Option Content };
 
-    // the groups that have a document, in the order in which they came
+    // the groups that have a document, in whatever order
     ghost carried: { Self → List ℕ };
 
     // from 1 to 16
@@ -57,7 +57,7 @@ pub trait Roster: Sized {
     /// Puts the document in place of the group's former one, if any. Refused with 21 if the group has
     /// none and the roster carries its full number; then all stays.
     fn replace(&mut self, document: &GroupDocument) -> Result<(), Refusal>
-        ensures { λ r. ⌜ Cases r (λ _. Replaced most (held (now (self .entry))) (held (now (self .exit))) (carried (now (self .entry))) (carried (now (self .exit))) (now (document .entry) .group .number) (content (now (document .entry) .document))) (λ e. (no-room most (held (now (self .entry))) (carried (now (self .entry))) (now (document .entry) .group .number) ≡ true) × (e ≡ RosterFull) × (now (self .exit) ≡ now (self .entry))) ⌝ };
+        ensures { λ r. ⌜ Cases r (λ _. Replaced most (held (now (self .entry))) (held (now (self .exit))) (carried (now (self .entry))) (now (document .entry) .group .number) (content (now (document .entry) .document))) (λ e. (no-room most (held (now (self .entry))) (carried (now (self .entry))) (now (document .entry) .group .number) ≡ true) × (e ≡ RosterFull) × (now (self .exit) ≡ now (self .entry))) ⌝ };
 
     /// Whether the group has a document.
     fn has_document(&self, group: GroupId) -> bool
