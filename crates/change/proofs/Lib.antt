@@ -1,0 +1,4 @@
+mod Loops
+mod Filling
+mod Settling
+mod Planning

@@ -1,0 +1,3 @@
+//! Examples of CHANGE and LEAVE.
+#[cfg(test)]
+mod tests;

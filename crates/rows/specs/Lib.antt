@@ -1,0 +1,5 @@
+pub mod Times
+pub mod Lists
+pub mod Entries
+pub mod Standings
+pub mod Holdings
