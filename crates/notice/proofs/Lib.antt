@@ -1,0 +1,4 @@
+mod Passing
+mod Removing
+mod Changing
+mod Beginning
