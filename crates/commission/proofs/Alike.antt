@@ -11,7 +11,7 @@ use Rattle.std.specs.declared.option.Option.the-variants.{None}
 use Rattle.std.proofs.shelf.Tests.{and-parts, leb-true}
 use Rattle.sheet.specs.Contents.{Content}
 use Rattle.roster.specs.Meaning.{among}
-use Rattle.serving.specs.declared.enrolment.Serving.{Serving}
+use Rattle.serving.specs.declared.state.Serving.{Serving}
 use Rattle.serving.specs.Enrolments.{is-enrolled}
 use Rattle.commission.specs.declared.difference.Side.the-variants.{RadioList, Sheets}
 use Rattle.commission.specs.Users.{Named, Only-on, Lowest-difference, Same-users}

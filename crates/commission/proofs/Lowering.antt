@@ -16,7 +16,7 @@ use Rattle.sheet.specs.declared.document.Member.{Member}
 use Rattle.sheet.specs.Contents.{Content}
 use Rattle.sheet.specs.Rules.{names}
 use Rattle.roster.specs.Meaning.{members-in, users-in, as-groups, among}
-use Rattle.serving.specs.declared.enrolment.Serving.{Serving}
+use Rattle.serving.specs.declared.state.Serving.{Serving}
 use Rattle.serving.specs.Enrolments.{is-enrolled}
 use Rattle.commission.specs.declared.difference.Side.the-variants.{Sheets}
 use Rattle.commission.specs.Users.{Named, Only-on, Lowest}

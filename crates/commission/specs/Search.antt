@@ -12,7 +12,7 @@ use Rattle.mcptt.specs.declared.identity.GroupId.{GroupId}
 use Rattle.sheet.specs.Contents.{Content}
 use Rattle.sheet.specs.Rules.{names}
 use Rattle.roster.specs.Meaning.{members-in, users-in, as-groups}
-use Rattle.serving.specs.declared.enrolment.Serving.{Serving}
+use Rattle.serving.specs.declared.state.Serving.{Serving}
 use Rattle.serving.specs.Enrolments.{is-enrolled}
 
 -- the document of the group at this place names the user

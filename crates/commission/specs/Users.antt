@@ -8,7 +8,7 @@ use Rattle.mcptt.specs.declared.identity.McpttId.{McpttId}
 use Rattle.sheet.specs.Contents.{Content}
 use Rattle.sheet.specs.Rules.{names}
 use Rattle.roster.specs.Meaning.{members-in}
-use Rattle.serving.specs.declared.enrolment.Serving.{Serving}
+use Rattle.serving.specs.declared.state.Serving.{Serving}
 use Rattle.serving.specs.Enrolments.{is-enrolled, enrolled-of}
 use Rattle.commission.specs.declared.difference.Side.{Side}
 use Rattle.commission.specs.declared.difference.Side.the-variants.{RadioList, Sheets}

@@ -5,6 +5,7 @@ use crate::compare;
 use crate::next_difference;
 use mcptt::GroupId;
 use mcptt::McpttId;
+use mcptt::Settings;
 use roster::Catalogue;
 use roster::DocumentTable;
 use roster::DocumentTableCatalogue;
@@ -44,7 +45,7 @@ fn place(roster: &mut DocumentTable, group: u32, one: u32, two: u32) -> bool {
 
 #[test]
 fn found_and_mended() -> Result<(), Fail> {
-    let mut serving = Serving::new();
+    let mut serving = Serving::new(Settings::usual());
     let mut roster: DocumentTable = DocumentTableRoster::empty();
     check(matches!(compare(&serving, &roster), Comparison::Same { users: 0 }))?;
     check(serving.enrol(McpttId { number: 64 }, 1, 1).is_ok())?;

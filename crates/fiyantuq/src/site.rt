@@ -9,6 +9,7 @@ use commission::compare;
 use commission::next_difference;
 use mcptt::GroupId;
 use mcptt::Refusal;
+use mcptt::Settings;
 use roster::Catalogue;
 use roster::DocumentTable;
 use roster::DocumentTableCatalogue;
@@ -39,7 +40,7 @@ pub enum Answer {
 impl Site {
     pub fn new(keeping: Keeping) -> Site {
         Site {
-            serving: Serving::new(),
+            serving: Serving::new(Settings::usual()),
             keeping,
             table: DocumentTableRoster::empty(),
             store: SheetStoreRoster::empty(),

@@ -1,7 +1,8 @@
 -- Who is enrolled, and what ENROL does.
 use Prim.Native.Nat.{ℕ, _-_}
-use mathlib.Core.Bool.{Bool, cond, not, _&&_}
-use lib.ListN.{getD, set, replicate}
+use mathlib.Core.Bool.{Bool, true, cond, not, _&&_}
+use mathlib.Core.List.{List}
+use lib.ListN.{set}
 use lib.Dec.{leb}
 use Rattle.std.specs.Options.{isSome}
 use Rattle.std.specs.shelf.Lists.{countBy}
@@ -10,19 +11,17 @@ use Rattle.std.specs.declared.option.Option.the-variants.{Some, None}
 use Rattle.mcptt.specs.Ranges.{is-served}
 use Rattle.mcptt.specs.declared.refusal.Refusal.{Refusal}
 use Rattle.mcptt.specs.declared.refusal.Refusal.the-variants.{NumberOutOfRange, AlreadyEnrolled, EnrolmentOutOfRange}
-use Rattle.serving.specs.declared.enrolment.Serving.{Serving}
+use Rattle.rows.specs.Standings.{Standing}
+use Rattle.serving.specs.declared.state.Serving.{Serving}
+use Rattle.serving.specs.States.{standings, standing-of, has-enrolled}
 
--- nobody is enrolled
-abbrev pub unused : Serving
-unused = record { users = replicate 64 None }
-
--- user n stands at place n - 1
+-- a user of 1 to 64 who was enrolled
 abbrev pub is-enrolled : Serving → ℕ → Bool
-is-enrolled s user = is-served user && isSome (getD (s .users) (user - 1) None)
+is-enrolled s user = is-served user && standing-of s user .enrolled
 
 -- how many users are enrolled
 abbrev pub enrolled-of : Serving → ℕ
-enrolled-of s = countBy isSome (s .users)
+enrolled-of s = countBy has-enrolled (s .accounts)
 
 -- a limit N2 of 1 to 16, and a first serial that is not 0
 abbrev pub can-enrol : ℕ → ℕ → Bool
@@ -35,8 +34,12 @@ enrol-refusal s user limit serial =
     (cond (is-enrolled s user) (Some AlreadyEnrolled)
     (cond (not (can-enrol limit serial)) (Some EnrolmentOutOfRange) None))
 
--- the user has that limit and that next serial, and all others stand as they were; a refusal changes nothing
-abbrev pub after-enrol : Serving → ℕ → ℕ → ℕ → Serving
+-- the same rows, with that limit and that next serial
+abbrev pub enrolled-with : Standing → ℕ → ℕ → Standing
+enrolled-with s limit serial = record { enrolled = true; limit = limit; next = serial; rows = s .rows }
+
+-- how the users stand after ENROL; a refusal changes nothing
+abbrev pub after-enrol : Serving → ℕ → ℕ → ℕ → List Standing
 after-enrol s user limit serial =
-    cond (isSome (enrol-refusal s user limit serial)) s
-    (record { users = set (s .users) (user - 1) (Some (record { limit = limit; «next_serial» = serial })) })
+    cond (isSome (enrol-refusal s user limit serial)) (standings s)
+    (set (standings s) (user - 1) (enrolled-with (standing-of s user) limit serial))

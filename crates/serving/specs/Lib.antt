@@ -1,1 +1,6 @@
+pub mod States
+pub mod Ticks
 pub mod Enrolments
+pub mod Calls
+pub mod Notices
+pub mod Pendings
