@@ -1,4 +1,6 @@
 //! A host's call set-up: it begins an implicit affiliation, and completes or cancels it on every way out.
+#![tactic(auto)]
+
 use mcptt::{ClientId, GroupId, McpttId, Refusal, Settings};
 use serving::{Pending, Serving};
 use std::io;

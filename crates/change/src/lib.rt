@@ -1,4 +1,6 @@
 //! CHANGE and LEAVE: what a radio wants, and the requests that follow from it.
+#![tactic(auto)]
+
 mod calls;
 mod checks;
 mod keeping;

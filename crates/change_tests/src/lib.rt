@@ -1,3 +1,5 @@
 //! Examples of CHANGE and LEAVE.
+#![tactic(auto)]
+
 #[cfg(test)]
 mod tests;

@@ -1,4 +1,6 @@
 //! Commissioning: whether the radio list of a site and its group sheets name the same users.
+#![tactic(auto)]
+
 mod comparing;
 mod difference;
 mod extra;

@@ -1,4 +1,6 @@
 //! The console of a site: checks its radio list against its group sheets, as a script says.
+#![tactic(auto)]
+
 mod command;
 mod console;
 mod site;

@@ -1,4 +1,6 @@
 //! The vocabulary of MCPTT affiliation: identities, sets of radios, settings and refusals.
+#![tactic(auto)]
+
 mod checked;
 mod checks;
 mod identity;

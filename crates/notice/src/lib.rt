@@ -1,4 +1,6 @@
 //! What is told of affiliations: NOTIFY, OUTCOME, STATUS, and the implicit ones, BEGIN, COMPLETE and CANCEL.
+#![tactic(auto)]
+
 mod checks;
 mod entries;
 mod event;

@@ -1,4 +1,6 @@
 //! The order in which a served user would rather have groups: what it promises, and two ways to give it.
+#![tactic(auto)]
+
 mod order;
 mod priority;
 #[cfg(test)]

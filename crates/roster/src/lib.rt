@@ -1,4 +1,6 @@
 //! Rosters: the documents of the groups that are homed here.
+#![tactic(auto)]
+
 mod catalogue;
 mod kept_sheet;
 mod members;

@@ -1,4 +1,6 @@
 //! What the gateway keeps of its users: the entries of each radio's row, and each user's account.
+#![tactic(auto)]
+
 mod account;
 mod accounts;
 mod entries;

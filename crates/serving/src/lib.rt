@@ -1,4 +1,6 @@
 //! The serving half of the gateway: the gateway's own radio users.
+#![tactic(auto)]
+
 mod begins;
 mod cancels;
 mod changes;

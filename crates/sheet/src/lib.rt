@@ -1,4 +1,6 @@
 //! Group documents and their sheets: what a document says, its 512 bytes, and the way between them.
+#![tactic(auto)]
+
 mod document;
 mod group_document;
 mod kept;

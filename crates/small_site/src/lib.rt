@@ -1,4 +1,6 @@
 //! A small site, call by call: one proved fact about the rules of the serving half.
+#![tactic(auto)]
+
 ghost use Rattle.small_site.specs.SmallSite.{SmallSite};
 
 /// The calls of user 7 on a small site come out as `specs/SmallSite.antt` writes them down.

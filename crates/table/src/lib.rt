@@ -1,4 +1,6 @@
 //! One table for every record that has a key and an end time.
+#![tactic(auto)]
+
 mod checks;
 mod keys;
 mod lent;
