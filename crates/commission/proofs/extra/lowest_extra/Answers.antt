@@ -14,8 +14,8 @@ pub loop-place-preserved : goal.loop-place-preserved
 loop-place-preserved g c =
     let carried = g.C.Roster.carried c.args.roster.now in
     let long = length-map {B = GroupId} carried (λ n. record { number = n }) in
-    step_at (taken_in c.args.serving.now c.args.after (g.C.Roster.held c.args.roster.now)) c.loop-place.best c.lowest-at-best.result _ (as_groups carried) c.loop-place.place (omega arith)
-    c.lowest-at-best.ensures c.loop-place.invariant
+    step_at (taken_in c.args.serving.now c.args.after (g.C.Roster.held c.args.roster.now)) c.loop-place.best c.lowest_at-best.result _ (as_groups carried) c.loop-place.place (omega arith)
+    c.lowest_at-best.ensures c.loop-place.invariant
 
 pub returns : goal.returns
 returns g c =

@@ -10,8 +10,8 @@ pub loop-place-preserved : goal.loop-place-preserved
 loop-place-preserved g c =
     let members = members_in (g.C.Roster.held c.args.roster.now c.args.group.number) in
     let long = length-map members (λ (m : Member). m.user) in
-    step_at (considered c.args.serving.now c.args.after) c.loop-place.best c.consider-at-best.result _ (users_in members) c.loop-place.place (omega arith)
-    c.consider-at-best.ensures c.loop-place.invariant
+    step_at (considered c.args.serving.now c.args.after) c.loop-place.best c.consider_at-best.result _ (users_in members) c.loop-place.place (omega arith)
+    c.consider_at-best.ensures c.loop-place.invariant
 
 pub returns : goal.returns
 returns g c =

@@ -5,8 +5,8 @@ use Rattle.notice.proofs.implicit.would_pass.Goals as goal
 pub returns-then-not-lives : goal.returns-then-not-lives
 returns-then-not-lives c =
     λ serial.
-    too_long c.args.time.seconds c.args.group.number serial c.args.row.now false c.count-live.result
-    c.if-not-lives.ensures c.count-live.ensures
+    too_long c.args.time.seconds c.args.group.number serial c.args.row.now false c.count_live.result
+    c.if-not-lives.ensures c.count_live.ensures
 
 pub returns-else-not-lives : goal.returns-else-not-lives
 returns-else-not-lives c =

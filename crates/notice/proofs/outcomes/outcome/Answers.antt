@@ -2,17 +2,17 @@ use Rattle.std.proofs.Common.{rules}
 use Rattle.notice.specs.Outcomes.{outcome_answer, after_outcome}
 use Rattle.notice.proofs.outcomes.outcome.Goals as goal
 
-pub returns-then-not-is-in-range : goal.returns-then-not-is-in-range
+pub returns-then-not-is_in_range : goal.returns-then-not-is_in_range
 unfolding outcome_answer after_outcome
-returns-then-not-is-in-range c = search rules
+returns-then-not-is_in_range c = search rules
 
 pub returns-then-not-account : goal.returns-then-not-account
 unfolding outcome_answer after_outcome
 returns-then-not-account c = search rules
 
-pub returns-then-is-accepted : goal.returns-then-is-accepted
+pub returns-then-is_accepted : goal.returns-then-is_accepted
 unfolding outcome_answer after_outcome
-returns-then-is-accepted c = search rules
+returns-then-is_accepted c = search rules
 
 pub returns : goal.returns
 unfolding outcome_answer after_outcome

@@ -5,8 +5,8 @@ use Rattle.notice.proofs.outcomes.strike_rows.Goals as goal
 pub loop-row-preserved : goal.loop-row-preserved
 loop-row-preserved c = (
   omega arith,
-  pass_more c.row-item.result c.strike-row-removed.new.row c.loop-row.invariant.1 c.loop-row-test.true
-      c.strike-row-removed.ensures.used c.strike-row-removed.ensures.removed,
+  pass_more c.row-item.result c.strike_row-removed.new.row c.loop-row.invariant.1 c.loop-row-test.true
+      c.strike_row-removed.ensures.used c.strike_row-removed.ensures.removed,
 )
 
 pub returns : goal.returns

@@ -6,9 +6,9 @@ pub returns-in_err-radio : goal.returns-in_err-radio
 unfolding cancel_answer after_cancel
 returns-in_err-radio c = search rules
 
-pub returns-then-not-is-pending : goal.returns-then-not-is-pending
+pub returns-then-not-is_pending : goal.returns-then-not-is_pending
 unfolding cancel_answer after_cancel
-returns-then-not-is-pending c = search rules
+returns-then-not-is_pending c = search rules
 
 pub returns : goal.returns
 unfolding cancel_answer after_cancel

@@ -4,5 +4,5 @@ use Rattle.notice.proofs.pending.change_at.Goals as goal
 
 pub returns : goal.returns
 returns g c =
-    row_changed c.args.account.now c.args.radio.number c.args.account.now.next_serial c.index-account-radio.result c.change-row.new.row (map (g.C.Change.becomes c.args.change.now))
-    (search rules) c.change-row.ensures.used
+    row_changed c.args.account.now c.args.radio.number c.args.account.now.next_serial c.index-account-radio.result c.change_row.new.row (map (g.C.Change.becomes c.args.change.now))
+    (search rules) c.change_row.ensures.used

@@ -10,7 +10,7 @@ loop-i-preserved c =
     let ms = c.args.members.now in
     let i = c.loop-i.i in
     let e = at_drop_more members_bytes ms i nobody (omega arith) in
-    member_more c.loop-i.out c.put-member.new.out (member_bytes (get_or ms i nobody)) (members_bytes (drop (i + 1) ms)) _ i c.put-member.ensures
+    member_more c.loop-i.out c.put_member.new.out (member_bytes (get_or ms i nobody)) (members_bytes (drop (i + 1) ms)) _ i c.put_member.ensures
     (ap (λ z. take (8 + 5 * i) c.loop-i.out ++ z) (sym e) ∙ c.loop-i.invariant)
 
 pub returns : goal.returns

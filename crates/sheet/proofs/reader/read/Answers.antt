@@ -29,10 +29,10 @@ returns-then-sum-quad c =
       answers = unread_sum bytes n wrong;
     }
 
-pub returns-then-is-sheet-of : goal.returns-then-is-sheet-of
-returns-then-is-sheet-of c =
+pub returns-then-is_sheet_of : goal.returns-then-is_sheet_of
+returns-then-is_sheet_of c =
     let bytes = c.args.bytes.now in
-    let is = c.is-sheet-of.ensures.0 c.if-is-sheet-of.true in
+    let is = c.is_sheet_of.ensures.0 c.if-is_sheet_of.true in
     let s : sum_of bytes 508 ≡ quad_at bytes 508 = sym c.sum.ensures ∙ (c.if-sum-quad.false ∙ c.quad.ensures) in
     let t = lawful_tested bytes c.quad-2.result c.decode-document.result is.0 is.1 in
     record {
@@ -43,19 +43,19 @@ returns-then-is-sheet-of c =
       answers = (unread_content bytes (omega arith) s ∙ cond-true _ _ _ t, c.quad-2.ensures, c.decode-document.ensures.says);
     }
 
-none : (c : goal.Else-is-sheet-of) (g : ℕ) (s : Content) → keeps_rules g s ≡ true → c.args.bytes.now ≡ sheet_bytes g s → ⊥
+none : (c : goal.Else-is_sheet_of) (g : ℕ) (s : Content) → keeps_rules g s ≡ true → c.args.bytes.now ≡ sheet_bytes g s → ⊥
 none c g s v e =
     let f = found c.args.bytes.now g s c.quad-2.result c.decode-document.result v e c.quad-2.ensures c.decode-document.ensures.says c.decode-document.ensures.count in
-    both_ways c.is-sheet-of.result c.if-is-sheet-of.false (c.is-sheet-of.ensures.1 (f.2, f.3))
+    both_ways c.is_sheet_of.result c.if-is_sheet_of.false (c.is_sheet_of.ensures.1 (f.2, f.3))
 
-untested : (c : goal.Else-is-sheet-of) → is_sheet c.args.bytes.now ≡ false
+untested : (c : goal.Else-is_sheet_of) → is_sheet c.args.bytes.now ≡ false
 untested c = elim (cases_Bool (is_sheet c.args.bytes.now)) [
   | inl t ↦ let a = tested_sheet c.args.bytes.now t in absurd (none c a.0 a.1 a.2 a.3)
   | inr f ↦ f
 ]
 
-pub returns-else-is-sheet-of : goal.returns-else-is-sheet-of
-returns-else-is-sheet-of c =
+pub returns-else-is_sheet_of : goal.returns-else-is_sheet_of
+returns-else-is_sheet_of c =
     let bytes = c.args.bytes.now in
     let n : length bytes ≡ 512 = omega arith in
     let s : sum_of bytes 508 ≡ quad_at bytes 508 = sym c.sum.ensures ∙ (c.if-sum-quad.false ∙ c.quad.ensures) in

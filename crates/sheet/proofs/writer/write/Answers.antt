@@ -11,6 +11,6 @@ returns c =
     let le : d.count ≤ 64 = grind (arith, nat_tests, ok) in
     let n : length (take d.count d.members) ≡ d.count = omega arith in (
       grind (arith, nat_tests, ok),
-      written c.args.group.number d (take d.count d.members) _ _ _ _ _ _ refl n le c.put-head.ensures c.put-members.ensures c.put-zeros.ensures
-          c.sum-total.ensures c.to-be-bytes.ensures c.put.ensures (omega arith),
+      written c.args.group.number d (take d.count d.members) _ _ _ _ _ _ refl n le c.put_head.ensures c.put_members.ensures c.put_zeros.ensures
+          c.sum-total.ensures c.to_be_bytes.ensures c.put.ensures (omega arith),
     )

@@ -5,8 +5,8 @@ use Rattle.notice.proofs.word.Word.tell_rows.Goals as goal
 pub loop-k-preserved : goal.loop-k-preserved
 loop-k-preserved c = (
   omega arith,
-  pass_more c.index-rows-k.result c.tell-row-turned.new.row c.loop-k.invariant.1 (omega arith)
-      c.tell-row-turned.ensures.used c.tell-row-turned.ensures.turned,
+  pass_more c.index-rows-k.result c.tell_row-turned.new.row c.loop-k.invariant.1 (omega arith)
+      c.tell_row-turned.ensures.used c.tell_row-turned.ensures.turned,
 )
 
 pub returns : goal.returns

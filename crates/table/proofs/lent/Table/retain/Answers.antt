@@ -9,14 +9,14 @@ loop-i-preserved g c =
     let h : c.loop-i.i < length c.loop-i.self.slots.now = omega arith in
     elim c.if-passes.branch [
       | then-passes w ↦
-          rw (w.self-is, w.kept-so-far-is) (
+          rw (w.self-is, w.kept_so_far-is) (
             sifting_more_set c.loop-i.invariant.0 h (sym w.if-passes.ensures) (get_or_default _ _ _ _ h),
             c.loop-i.invariant.1,
             c.loop-i.invariant.2,
             c.loop-i.invariant.3,
           )
       | else-passes w ↦
-          rw (w.self-is, w.kept-so-far-is) (
+          rw (w.self-is, w.kept_so_far-is) (
             sifting_more_no c.loop-i.invariant.0 h (sym w.if-passes.ensures) (get_or_default _ _ _ _ h),
             c.loop-i.invariant.1,
             c.loop-i.invariant.2,
