@@ -44,8 +44,8 @@ module _
     (places radio : ℕ) (enrolled : Bool) (interval : ℕ) (fit used-up too_long : Bool)
     (first : first_refusal places radio enrolled None ≡ None) (some-time : interval ≡ 0 → ⊥) (fits : true ≡ fit) (serials : false ≡ used-up)
   where
-    pub refused-too-long : true ≡ too_long → first_refusal places radio enrolled (later_refusal interval fit used-up too_long) ≡ Some RowTooLong
-    refused-too-long h = grind (arith, nat_tests)
+    pub refused_too_long : true ≡ too_long → first_refusal places radio enrolled (later_refusal interval fit used-up too_long) ≡ Some RowTooLong
+    refused_too_long h = grind (arith, nat_tests)
 
     pub refused_none : false ≡ too_long → first_refusal places radio enrolled (later_refusal interval fit used-up too_long) ≡ None
     refused_none h = grind (arith, nat_tests)

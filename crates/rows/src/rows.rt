@@ -59,7 +59,7 @@ impl Row {
     pub fn add(&mut self, new: Entry) -> Result<(), Full>
         ensures fits { is_ok result ≡ nat_lt self.old.count 24 }
         ensures count { self.new.count ≡ (if is_ok result then self.old.count + 1 else self.old.count) }
-        ensures used { used self.new ≡ cond (is_ok result) (used self.old ++ new ∷ []) (used self.old) }
+        ensures used { used self.new ≡ (if is_ok result then used self.old ++ new ∷ [] else used self.old) }
     {
         let mut table = Table::over(&mut self.entries, &mut self.count);
         table.add(new)

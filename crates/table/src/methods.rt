@@ -25,7 +25,7 @@ impl<'a, T: Copy> Table<'a, T> {
         ensures fits { is_ok result ≡ has_room self.old }
         ensures count { self.new.count.now ≡ (if is_ok result then self.old.count.now + 1 else self.old.count.now) }
         ensures slots { self.new.slots.now ≡ (if is_ok result then slice_set self.old.slots.now self.old.count.now new else self.old.slots.now) }
-        ensures used { used self.new ≡ cond (is_ok result) (used self.old ++ new ∷ []) (used self.old) }
+        ensures used { used self.new ≡ (if is_ok result then used self.old ++ new ∷ [] else used self.old) }
         ensures lender { SameLender self.old self.new }
     {
         let free = *self.count;

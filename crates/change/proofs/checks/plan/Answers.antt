@@ -2,7 +2,7 @@ use Rattle.std.proofs.Common.{◌-◌, length, sym, ap, ◌∙◌, arith}
 use Rattle.std.proofs.lemmas.Bool.{ltb-false}
 use Rattle.rows.specs.Standings.{Standing, standing}
 use Rattle.change.specs.Changes.{Moment, moment, Change, change_of, last_serial}
-use Rattle.change.proofs.Planning.{as_planned, refused-too-long, refused_none}
+use Rattle.change.proofs.Planning.{as_planned, refused_too_long, refused_none}
 use Rattle.change.proofs.checks.plan.Goals as goal
 
 pub returns-then-is_too_long : goal.returns-then-is_too_long
@@ -12,7 +12,7 @@ returns-then-is_too_long g c =
     let k : Change = change_of c.args.user.number c.args.radio.number c.args.interval c.args.wanted.now c.args.places in
     let checked = c.in_ok-radio.ensures in
     let planned = as_planned m s k _ _ _ _ _ checked.0 c.held_elsewhere-others.ensures.listed c.keep-chosen.ensures.listed c.change_moves-moves.ensures c.if-is_too_long.ensures.length in
-    refused-too-long c.args.places c.args.radio.number s.enrolled _ _ _ _ checked.2 c.if-interval-eq0.false c.if-not-may_want.ensures c.if-serials_used_up.ensures planned.length_tested
+    refused_too_long c.args.places c.args.radio.number s.enrolled _ _ _ _ checked.2 c.if-interval-eq0.false c.if-not-may_want.ensures c.if-serials_used_up.ensures planned.length_tested
 
 pub returns : goal.returns
 returns g c =
