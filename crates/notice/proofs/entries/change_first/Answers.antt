@@ -8,5 +8,5 @@ loop-one-preserved g c = search (rules, map_over_more (g.C.Change.becomes c.args
 
 pub returns : goal.returns
 returns g c =
-    changed_front (g.C.Change.becomes c.args.change.now) c.args.slots.now c.loop-one.one-items c.args.count c.loop-one.one_Index
+    changed_front (g.C.Change.becomes c.args.change.now) c.args.slots.now c.loop-one.one-items c.args.count c.loop-one.one-index
     c.requires c.loop-one.invariant c.loop-one-test.false
