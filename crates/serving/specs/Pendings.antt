@@ -1,5 +1,5 @@
 -- BEGIN, COMPLETE and CANCEL of a user: the answers, the standings after, and the token.
-use Rattle.std.specs.Prelude.{ℕ, Bool, List, Ok, Err, Result}
+use Rattle.std.specs.Prelude.{ℕ, Bool, false, List, Ok, Err, Result}
 use Rattle.mcptt.specs.declared.refusal.Refusal.{Refusal}
 use Rattle.rows.specs.Standings.{Standing}
 use Rattle.notice.specs.Implicit.{begin_answer, after_begin, complete_answer, after_complete, cancel_answer, after_cancel}
@@ -16,10 +16,16 @@ abbrev pub standings_after_begin : Serving → ℕ → ℕ → ℕ → List Stan
 standings_after_begin s user radio group =
     after_unless (user_refusal user) (standings s) (with_standing s user (after_begin s.time.seconds (standing_of s user) radio group))
 
--- the token of the pending affiliation that has this serial
+-- the token of the pending affiliation that has this serial, not yet settled
 abbrev pub pending_of : ℕ → ℕ → ℕ → ℕ → Pending
 pending_of user radio group serial =
-    record { user = record { number = user }; radio = record { number = radio }; group = record { number = group }; serial = serial }
+    record {
+      user = record { number = user };
+      radio = record { number = radio };
+      group = record { number = group };
+      serial = serial;
+      settled = false;
+    }
 
 abbrev pub handed_out : ℕ → ℕ → ℕ → Result ℕ Refusal → Result Pending Refusal
 handed_out user radio group (Ok serial) = Ok (pending_of user radio group serial)
