@@ -2,7 +2,7 @@
 use Rattle.std.specs.Prelude.{◌≡◌, ℕ, zero, suc, ◌+◌, ◌<◌, ◌≤◌, Bool, true, false, cond, not, ◌&&◌, ◌||◌, List, [], ◌∷◌, ◌++◌, map, length, get_or, take, drop, set, is_some, Some, None, Option, MatchOption, ◌==◌, nat_le, nat_lt, slice_index_or, slice_set, refl}
 use Rattle.std.proofs.Common.{sym, ap, ap₂, ◌∙◌, arith}
 use Rattle.std.proofs.Math.Seq.{take-set-lt}
-use Rattle.std.proofs.lemmas.List.{at_drop_more, map-set, map_push, take_more_set, length-map, length-take-le, get_or-map}
+use Rattle.std.proofs.lemmas.List.{at_drop_more, map-set, map_push, take_more_set, length-map, length-take, length-take-le, get_or-map}
 use Rattle.std.proofs.lemmas.Bool.Decides.{nat_tests}
 use Rattle.std.specs.List.{slice_get}
 use Rattle.mcptt.specs.declared.identity.GroupId.{GroupId}
@@ -120,6 +120,10 @@ groups_put (p ∷ ps) f = let ih = groups_put ps f in grind (arith, nat_tests)
 pub carries_held : (fs : List Filed) (g : ℕ) → is_some (held_in fs g) ≡ among g (groups_in fs)
 carries_held [] g = refl
 carries_held (f ∷ fs) g = let ih = carries_held fs g in grind (arith, nat_tests)
+
+-- no more groups are carried than pages are in use
+pub carried_within : {P : Type 0} (says : P → Filed) (ps : List P) (n most : ℕ) → n ≤ most → length (groups_in (map says (take n ps))) ≤ most
+carried_within says ps n most few = simp (length-map, length-take) (omega arith)
 
 -- one more group at the end
 pub among_push : (k g : ℕ) (gs : List ℕ) → among k (gs ++ g ∷ []) ≡ (among k gs || g == k)

@@ -1,10 +1,9 @@
 //! The store of sheets as a roster.
 ghost use Rattle.roster.specs.Pages.{groups_in, held_in};
-ghost use Rattle.roster.specs.Sheets.{sheets_say};
+ghost use Rattle.roster.specs.Sheets.{sheets_say, sheet_says};
 ghost use Rattle.std.specs.Prelude.{take};
-ghost use Rattle.roster.specs.Filing.{carries_held};
-ghost use Rattle.std.proofs.Common.{arith, rules};
-ghost use Rattle.std.proofs.lemmas.List.{length-map, length-take};
+ghost use Rattle.roster.specs.Filing.{carried_within, carries_held};
+ghost use Rattle.std.proofs.Common.{rules};
 
 use crate::catalogue::Catalogue;
 use crate::kept_sheet::KeptSheet;
@@ -25,13 +24,13 @@ impl Roster for SheetStore {
 
     ghost carried = { λ s. groups_in (sheets_say (take s.count s.sheets)) };
 
-    ghost few = { first_of (Prim.search rules, Prim.grind (arith, Self.row.coded.inj)) };
+    ghost few = { Prim.search rules };
 
-    ghost different = { first_of (Prim.search rules, Prim.grind (arith, Self.row.coded.inj)) };
+    ghost different = { Prim.search rules };
 
     ghost carries = { λ s g. carries_held (sheets_say (take s.count s.sheets)) g };
 
-    ghost within = { λ s. simp (length-map, length-take) (omega arith) };
+    ghost within = { λ s. carried_within sheet_says s.sheets s.count 8 s.used };
 
     fn room() -> usize {
         Self::GROUPS

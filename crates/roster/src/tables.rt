@@ -1,10 +1,9 @@
 //! The table of documents as a roster.
 ghost use Rattle.roster.specs.Pages.{groups_in, held_in};
-ghost use Rattle.roster.specs.Slots.{slots_say};
+ghost use Rattle.roster.specs.Slots.{slots_say, slot_says};
 ghost use Rattle.std.specs.Prelude.{take};
-ghost use Rattle.roster.specs.Filing.{carries_held};
-ghost use Rattle.std.proofs.Common.{arith, rules};
-ghost use Rattle.std.proofs.lemmas.List.{length-map, length-take};
+ghost use Rattle.roster.specs.Filing.{carried_within, carries_held};
+ghost use Rattle.std.proofs.Common.{rules};
 
 use crate::catalogue::Catalogue;
 use crate::pages::{
@@ -43,13 +42,13 @@ impl Roster for DocumentTable {
 
     ghost carried = { λ t. groups_in (slots_say (take t.count t.slots)) };
 
-    ghost few = { first_of (Prim.search rules, Prim.grind (arith, Self.row.coded.inj)) };
+    ghost few = { Prim.search rules };
 
-    ghost different = { first_of (Prim.search rules, Prim.grind (arith, Self.row.coded.inj)) };
+    ghost different = { Prim.search rules };
 
     ghost carries = { λ s g. carries_held (slots_say (take s.count s.slots)) g };
 
-    ghost within = { λ s. simp (length-map, length-take) (omega arith) };
+    ghost within = { λ s. carried_within slot_says s.slots s.count 16 s.used };
 
     fn room() -> usize {
         Self::GROUPS

@@ -1,5 +1,5 @@
 //! The table at two sorts of records: entries kept by group, and listings kept by user.
-ghost use Rattle.std.specs.Prelude.{◌≡◌, ◌+◌, ◌≤◌, true, not, ltb, [], ◌∷◌, ◌++◌, take, drop, is_ok, if◌then◌else◌, count_by, filter, MatchOption, ◌==◌, nat_lt, slice_set};
+ghost use Rattle.std.specs.Prelude.{◌≡◌, ◌+◌, ◌≤◌, true, not, [], ◌∷◌, ◌++◌, take, drop, is_ok, if◌then◌else◌, count_by, filter, MatchOption, ◌==◌, nat_lt, slice_set};
 ghost use Rattle.table.specs.Tables.{first_place, live_of};
 
 use crate::*;
@@ -53,7 +53,7 @@ impl Row {
     }
 
     fn count_live(&self, time: u64) -> usize
-        ensures { result ≡ count_by (λ e. ltb time e.end) (take self.now.count self.now.entries) }
+        ensures { result ≡ count_by (λ e. nat_lt time e.end) (take self.now.count self.now.entries) }
     {
         count_live(&self.entries, self.count, time)
     }
