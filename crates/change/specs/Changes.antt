@@ -1,5 +1,5 @@
 -- CHANGE and LEAVE of a user: what is refused, what is answered, how the user stands after, and what goes out.
-use Rattle.std.specs.Prelude.{ℕ, ◌+◌, ◌-◌, ◌*◌, Bool, cond, not, List, [], ◌∷◌, ◌++◌, length, drop, Some, None, Ok, Err, Option, Result, ◌==◌, nat_lt, slice_set}
+use Rattle.std.specs.Prelude.{ℕ, ◌+◌, ◌-◌, ◌*◌, Bool, cond, not, List, ◌++◌, length, drop, Some, None, Ok, Err, Option, Result, ◌==◌, nat_lt, slice_set}
 use Rattle.mcptt.specs.Ranges.{is_radio}
 use Rattle.mcptt.specs.declared.identity.GroupId.{GroupId}
 use Rattle.mcptt.specs.declared.refusal.Refusal.{Refusal}

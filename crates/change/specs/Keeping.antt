@@ -1,5 +1,5 @@
 -- Which of the wanted groups are kept.
-use Rattle.std.specs.Prelude.{ℕ, ◌-◌, Bool, true, false, cond, not, ◌&&◌, ◌||◌, List, [], ◌∷◌, ◌++◌, length, filter, nat_le, nat_lt}
+use Rattle.std.specs.Prelude.{ℕ, Bool, true, cond, not, ◌&&◌, ◌||◌, List, [], ◌∷◌, length, filter, nat_le, nat_lt}
 use Rattle.mcptt.specs.declared.identity.GroupId.{GroupId}
 use Rattle.rows.specs.Lists.{member, noted}
 

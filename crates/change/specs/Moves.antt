@@ -1,5 +1,5 @@
 -- What becomes of the entries of a row.
-use Rattle.std.specs.Prelude.{ℕ, Bool, cond, ◌&&◌, List, [], ◌∷◌, ◌++◌, map, take}
+use Rattle.std.specs.Prelude.{ℕ, Bool, cond, List, [], ◌∷◌, ◌++◌, map, take}
 use Rattle.std.specs.List.{flat_map}
 use Rattle.mcptt.specs.declared.identity.GroupId.{GroupId}
 use Rattle.rows.specs.declared.entry.Status.{Status}

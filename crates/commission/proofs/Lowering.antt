@@ -2,7 +2,6 @@
 use Rattle.std.proofs.Common.{◌≡◌, ℕ, ◌<◌, ◌≤◌, Bool, true, false, cond, not, ◌&&◌, ◌||◌, eqb, ltb, List, [], ◌∷◌, is_some, Some, None, fold, Option, sym, refl, ap, ◌∙◌, subst, arith}
 use Rattle.std.proofs.lemmas.Bool.{false≢true, eqb-true, eq-eqb, ltb-true, ltb-false, lt-ltb, or_left, or_right}
 use Rattle.mcptt.specs.declared.identity.McpttId.{McpttId}
-use Rattle.mcptt.specs.declared.identity.GroupId.{GroupId}
 use Rattle.sheet.specs.declared.document.Member.{Member}
 use Rattle.sheet.specs.Contents.{Content}
 use Rattle.sheet.specs.Rules.{names}

@@ -1,5 +1,5 @@
 -- Implicit affiliation: BEGIN, COMPLETE and CANCEL.
-use Rattle.std.specs.Prelude.{ℕ, ◌+◌, ◌-◌, Bool, true, false, cond, not, ◌&&◌, List, [], ◌∷◌, ◌++◌, map, length, Some, None, Ok, Err, filter, Option, Result, ◌==◌, nat_le, nat_lt, slice_set}
+use Rattle.std.specs.Prelude.{ℕ, ◌+◌, ◌-◌, Bool, false, cond, not, ◌&&◌, List, [], ◌∷◌, ◌++◌, map, length, Some, None, Ok, Err, filter, Option, Result, ◌==◌, nat_le, nat_lt, slice_set}
 use Rattle.mcptt.specs.Ranges.{is_radio, is_group}
 use Rattle.mcptt.specs.declared.refusal.Refusal.{Refusal}
 use Rattle.mcptt.specs.declared.refusal.Refusal.TheVariants.{NumberOutOfRange, NotEnrolled, SerialsUsedUp, RowTooLong, HeldAlready, LimitReached}

@@ -1,11 +1,11 @@
 -- What the writer leaves in a buffer says the document that was written.
-use Rattle.std.proofs.Common.{◌≡◌, ℕ, true, List, length, Some, None, Ok, Err, Result, refl, ap, ◌∙◌, arith}
-use Rattle.std.proofs.lemmas.Bool.{and_parts, eq-eqb}
+use Rattle.std.proofs.Common.{◌≡◌, ℕ, List, length, None, Ok, Err, Result, ap, ◌∙◌, arith}
+use Rattle.std.proofs.lemmas.Bool.{and_parts}
 use Rattle.std.proofs.lemmas.Bool.Decides.{nat_tests}
 use Rattle.mcptt.specs.declared.refusal.Refusal.{Refusal}
 use Rattle.sheet.specs.declared.group_document.GroupDocument.{GroupDocument}
 use Rattle.sheet.specs.Contents.{content}
-use Rattle.sheet.specs.Rules.{lawful, keeps_rules}
+use Rattle.sheet.specs.Rules.{keeps_rules}
 use Rattle.sheet.specs.Decoded.{group_of, content_of}
 use Rattle.sheet.specs.Promises.{Writes, unwritten}
 use Rattle.sheet.proofs.Back.{group_back, content_back}

@@ -1,5 +1,5 @@
 -- What a roster means: the groups that it carries, and for each group no document or one.
-use Rattle.std.specs.Prelude.{◌≡◌, ℕ, Bool, true, false, cond, not, ◌&&◌, ◌||◌, List, [], ◌∷◌, ◌++◌, map, length, is_some, Some, None, Option, ◌==◌, nat_le}
+use Rattle.std.specs.Prelude.{◌≡◌, ℕ, Bool, true, false, cond, not, ◌&&◌, ◌||◌, List, [], ◌∷◌, map, length, is_some, Some, None, Option, ◌==◌, nat_le}
 use Rattle.mcptt.specs.declared.identity.GroupId.{GroupId}
 use Rattle.mcptt.specs.declared.identity.McpttId.{McpttId}
 use Rattle.sheet.specs.declared.document.Member.{Member}

@@ -11,8 +11,8 @@ use sheet::GroupDocument;
 /// The documents of groups. What a roster means is `held`, the document of each group, and `carried`,
 /// the groups that have one: generic code knows a roster by these alone.
 pub trait Roster: Sized {
-    /// How many groups it can carry, from 1 to 16. A clause cannot speak of a constant: `most` stands
-    /// for it there, and each roster's `room` answers it by this constant.
+    /// How many groups it can carry, from 1 to 16. Clauses speak of `most` in its stead, and each
+    /// roster's `room` answers that by this constant.
     const GROUPS: usize;
 
     // how many groups it can carry

@@ -1,5 +1,5 @@
 -- What a user holds, over the rows of radios 1 to 4 (row k is radio k + 1).
-use Rattle.std.specs.Prelude.{ℕ, ◌-◌, Bool, cond, List, [], ◌∷◌, length, ◌==◌, slice_index_or}
+use Rattle.std.specs.Prelude.{ℕ, ◌-◌, Bool, cond, List, [], ◌∷◌, ◌==◌, slice_index_or}
 use Rattle.mcptt.specs.Ranges.{set_of}
 use Rattle.mcptt.specs.declared.identity.GroupId.{GroupId}
 use Rattle.rows.specs.declared.entry.Entry.{Entry}

@@ -1,5 +1,5 @@
 -- Questions about lists of groups.
-use Rattle.std.specs.Prelude.{ℕ, Bool, true, false, cond, not, ◌&&◌, ◌||◌, List, [], ◌∷◌, ◌++◌, take, nat_eq}
+use Rattle.std.specs.Prelude.{ℕ, Bool, false, cond, ◌||◌, List, [], ◌∷◌, ◌++◌, take, nat_eq}
 use Rattle.mcptt.specs.declared.identity.GroupId.{GroupId}
 use Rattle.rows.specs.declared.group_list.Groups.{Groups}
 

@@ -2,7 +2,7 @@
 use Rattle.std.proofs.Common.{◌≡◌, ℕ, ◌-◌, ◌<◌, List, map, length, get_or, set, sym, refl, ap, ◌∙◌}
 use Rattle.std.proofs.lemmas.List.{map-set, get_or-map, get_or-set_same, set-get_or}
 use Rattle.rows.specs.declared.account.Account.{Account}
-use Rattle.rows.specs.Standings.{Standing, standing, unused, no_account}
+use Rattle.rows.specs.Standings.{standing, unused, no_account}
 use Rattle.serving.specs.declared.state.Serving.{Serving}
 use Rattle.serving.specs.States.{OthersSame}
 

@@ -1,7 +1,6 @@
 -- A small site, call by call: F is 32, the time 1,000; user 7 has N2 = 2 and the first serial 1; the groups 10, 20, 30 have the priorities 1, 2, 3.
-use Rattle.std.specs.Prelude.{◌≡◌, ℕ, ◌+◌, Bool, true, false, List, [], ◌∷◌, Some, None, Ok, Err, Result}
+use Rattle.std.specs.Prelude.{◌≡◌, ℕ, true, false, List, [], ◌∷◌, Some, Ok, Err}
 use Rattle.mcptt.specs.declared.identity.GroupId.{GroupId}
-use Rattle.mcptt.specs.declared.refusal.Refusal.{Refusal}
 use Rattle.mcptt.specs.declared.refusal.Refusal.TheVariants.{LimitReached}
 use Rattle.preference.specs.declared.priority.PriorityRow.{PriorityRow}
 use Rattle.preference.specs.Orders.{by_rank}

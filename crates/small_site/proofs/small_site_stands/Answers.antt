@@ -2,7 +2,6 @@ use Rattle.std.proofs.Common.{refl}
 use Rattle.change.specs.Changes.{change_answer, after_change, out_after_change}
 use Rattle.notice.specs.Notices.{notify_answer, after_notify}
 use Rattle.notice.specs.Implicit.{begin_answer, after_begin, cancel_answer, after_cancel}
-use Rattle.small_site.specs.SmallSite.{SmallSite}
 use Rattle.small_site.proofs.small_site_stands.Goals as goal
 
 pub returns : goal.returns

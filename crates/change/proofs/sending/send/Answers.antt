@@ -1,4 +1,4 @@
-use Rattle.std.proofs.Common.{◌≡◌, ◌+◌, ◌<◌, length, sym, ◌∙◌, arith}
+use Rattle.std.proofs.Common.{◌+◌, ◌<◌, length, sym, ◌∙◌, arith}
 use Rattle.rows.specs.Standings.{standing}
 use Rattle.change.proofs.Filling.{filling_as, filling_set, filling_all, filling_count}
 use Rattle.change.proofs.Settling.{requests-yes, requests-no, requests_all}

@@ -1,4 +1,4 @@
-use Rattle.std.proofs.Common.{◌≡◌, ◌-◌, ◌≤◌, List, [], length, sym, refl, ap, subst, rules}
+use Rattle.std.proofs.Common.{◌-◌, ◌≤◌, List, length, sym, refl, subst, rules}
 use Rattle.rows.specs.declared.entry.Entry.{Entry}
 use Rattle.rows.proofs.Radios.{row_read}
 use Rattle.notice.specs.Implicit.{begun_row}

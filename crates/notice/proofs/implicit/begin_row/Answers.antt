@@ -1,5 +1,4 @@
-use Rattle.std.proofs.Common.{arith, rules}
-use Rattle.std.proofs.lemmas.Bool.Decides.{nat_tests}
+use Rattle.std.proofs.Common.{rules}
 use Rattle.notice.proofs.Beginning.{begun_length}
 use Rattle.notice.proofs.implicit.begin_row.Goals as goal
 

@@ -1,5 +1,5 @@
-use Rattle.std.proofs.Common.{◌≡◌, arith, rules}
-use Rattle.notice.proofs.Passing.{pass_none, pass_more, pass_map, pass_count}
+use Rattle.std.proofs.Common.{◌≡◌, arith}
+use Rattle.notice.proofs.Passing.{pass_more, pass_map, pass_count}
 use Rattle.notice.proofs.outcomes.strike_rows.Goals as goal
 
 pub loop-row-preserved : goal.loop-row-preserved

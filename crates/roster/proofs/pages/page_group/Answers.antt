@@ -1,4 +1,3 @@
-use Rattle.std.proofs.Common.{sym, ◌∙◌}
 use Rattle.roster.specs.Filing.{group_there, group_past}
 use Rattle.roster.proofs.pages.page_group.Goals as goal
 

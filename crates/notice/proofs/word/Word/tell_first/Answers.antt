@@ -1,6 +1,6 @@
-use Rattle.std.proofs.Common.{take, refl, arith, rules}
+use Rattle.std.proofs.Common.{refl, arith}
 use Rattle.std.proofs.lemmas.List.{length-take}
-use Rattle.notice.specs.Notices.{heard, notified, verdict_on, is_turned, turned_in}
+use Rattle.notice.specs.Notices.{heard, verdict_on, is_turned, turned_in}
 use Rattle.notice.proofs.Changing.{changed_more, changed_front, counted_more, counted_all}
 use Rattle.notice.proofs.word.Word.tell_first.Goals as goal
 
