@@ -27,8 +27,6 @@ MADE = [
 # what may stand in a name of antt
 NAME = r"[^\s(){}\[\],;.:\"`|=]"
 
-DEFINED = re.compile(r"^(\s*)((?:(?:abbrev|unfoldable|pub|record|data)\s+)*)(" + NAME + r"+)(?=[^\n]*? : |\s*$)", re.M)
-
 
 def files(ending, part=""):
     out = []
