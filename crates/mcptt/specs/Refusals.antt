@@ -1,5 +1,5 @@
 -- The numbers, parties, SIP answers and words of the refusals.
-use Rattle.std.specs.Prelude.{ℕ, cond, ◌&&◌, List, Some, None, Ok, Err, codes, Option, Result, ◌==◌, nat_le}
+use Rattle.std.specs.Prelude.{◌≡◌, ℕ, Bool, false, MatchResult, cond, ◌&&◌, List, Some, None, Ok, Err, codes, Option, Result, ◌==◌, nat_le}
 use Rattle.mcptt.specs.declared.refusal.SipAnswer.{SipAnswer}
 use Rattle.mcptt.specs.declared.refusal.Party.{Party}
 use Rattle.mcptt.specs.declared.refusal.Party.TheVariants.{Integrator, Technician, RadioSide, OutsideServer, GroupOffice}
@@ -72,3 +72,8 @@ words_of RosterFull = codes "roster full"
 abbrev pub answered : Option Refusal → Result (Unit {0}) Refusal
 answered None = Ok tt
 answered (Some refusal) = Err refusal
+
+-- what a checked value is made of: the value with that number, or refusal 5, which says that the number is out of range
+abbrev pub Checks : {X : Type 0} → (X → ℕ) → (ℕ → Bool) → ℕ → Result X Refusal → Type 0
+Checks number_in is_in_range number made =
+    MatchResult made (λ x. number_in x ≡ number) (λ refusal. (is_in_range number ≡ false) × (refusal ≡ NumberOutOfRange))

@@ -1,54 +1,43 @@
 //! What a refusal says of itself, answered from the definitions in specs.
-ghost use Rattle.std.specs.Prelude.{◌≡◌};
+ghost use Rattle.std.specs.Prelude.{◌≡◌, Some};
 ghost use Rattle.mcptt.specs.Refusals.{number_of, party_of, words_of, sip_of};
 
 use crate::refusal::{Party, Refusal, SipAnswer};
+use std::fmt;
 
 impl Refusal {
     /// The number that a host reports.
     pub fn number(self) -> u8
         ensures { result ≡ number_of self }
     {
-        match self {
-            Refusal::SettingOutOfRange => 1,
-            Refusal::TimeBackwards => 2,
-            Refusal::TimeTooFar => 3,
-            Refusal::OutgoingTooShort => 4,
-            Refusal::NumberOutOfRange => 5,
-            Refusal::AlreadyEnrolled => 6,
-            Refusal::EnrolmentOutOfRange => 7,
-            Refusal::NotEnrolled => 8,
-            Refusal::IntervalZero => 9,
-            Refusal::WantedListFaulty => 10,
-            Refusal::SerialsUsedUp => 11,
-            Refusal::RowTooLong => 12,
-            Refusal::HeldAlready => 13,
-            Refusal::LimitReached => 14,
-            Refusal::ExpiresOutOfRange => 15,
-            Refusal::NoDocument => 16,
-            Refusal::UserNotNamed => 17,
-            Refusal::NotSheetSize => 18,
-            Refusal::WrongSum => 19,
-            Refusal::ContentFaulty => 20,
-            Refusal::RosterFull => 21,
-        }
+        self as u8
     }
 
     /// Whose doing it is.
     pub fn party(self) -> Party
         ensures { result ≡ party_of (number_of self) }
     {
-        let number = self.number();
-        if number <= 5 {
-            Party::Integrator
-        } else if number <= 7 {
-            Party::Technician
-        } else if number <= 14 {
-            Party::RadioSide
-        } else if number <= 17 {
-            Party::OutsideServer
-        } else {
-            Party::GroupOffice
+        match self {
+            Refusal::SettingOutOfRange
+            | Refusal::TimeBackwards
+            | Refusal::TimeTooFar
+            | Refusal::OutgoingTooShort
+            | Refusal::NumberOutOfRange => Party::Integrator,
+            Refusal::AlreadyEnrolled | Refusal::EnrolmentOutOfRange => Party::Technician,
+            Refusal::NotEnrolled
+            | Refusal::IntervalZero
+            | Refusal::WantedListFaulty
+            | Refusal::SerialsUsedUp
+            | Refusal::RowTooLong
+            | Refusal::HeldAlready
+            | Refusal::LimitReached => Party::RadioSide,
+            Refusal::ExpiresOutOfRange | Refusal::NoDocument | Refusal::UserNotNamed => {
+                Party::OutsideServer
+            }
+            Refusal::NotSheetSize
+            | Refusal::WrongSum
+            | Refusal::ContentFaulty
+            | Refusal::RosterFull => Party::GroupOffice,
         }
     }
 
@@ -96,5 +85,13 @@ impl Refusal {
             Refusal::ContentFaulty => "content against the layout or the rules of a document",
             Refusal::RosterFull => "roster full",
         }
+    }
+}
+
+impl fmt::Display for Refusal {
+    ghost output = { λ r. Some (words_of r) };
+
+    fn fmt<W: fmt::Write>(&self, f: &mut fmt::Formatter<W>) -> fmt::Result {
+        f.write_str(self.words())
     }
 }

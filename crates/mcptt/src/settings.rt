@@ -11,10 +11,10 @@ impl Settings {
     pub fn of(timer: u32, grant: u32) -> Result<Settings, Refusal>
         ensures { MatchResult result (λ s. (s.timer ≡ timer) × (s.grant ≡ grant)) (λ e. ((is_timer timer && is_grant grant) ≡ false) × (e ≡ SettingOutOfRange)) }
     {
-        if timer == 0 || timer > 3600 || grant < 2_592_000 {
-            return Err(Refusal::SettingOutOfRange);
+        match (timer, grant) {
+            (1..=3600, 2_592_000..) => Ok(Settings { timer, grant }),
+            _ => Err(Refusal::SettingOutOfRange),
         }
-        Ok(Settings { timer, grant })
     }
 
     /// The settings of a gateway that was given none: F is 32, G 2,592,000.

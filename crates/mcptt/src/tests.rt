@@ -6,22 +6,22 @@ use crate::{
 use std::test::Fail;
 
 fn served(number: u32) -> bool {
-    ServedUser::of(McpttId { number }).is_ok()
+    ServedUser::try_from(McpttId { number }).is_ok()
 }
 
 fn radio(number: u32) -> bool {
-    Radio::of(ClientId { number }).is_ok()
+    Radio::try_from(ClientId { number }).is_ok()
 }
 
 #[test]
 fn ranges_of_identities(rt: HostRuntime) {
     assert!(rt; !served(0) && served(1) && served(64) && !served(65));
     assert!(rt; !radio(0) && radio(1) && radio(4) && !radio(5));
-    assert!(rt; User::of(McpttId { number: 0 }).is_err());
-    assert!(rt; User::of(McpttId { number: u32::MAX }).is_ok());
-    assert!(rt; Group::of(GroupId { number: 0 }).is_err());
-    assert!(rt; Group::of(GroupId { number: u32::MAX }).is_ok());
-    assert!(rt; RadioSet::of(15).is_ok() && RadioSet::of(16).is_err());
+    assert!(rt; User::try_from(McpttId { number: 0 }).is_err());
+    assert!(rt; User::try_from(McpttId { number: u32::MAX }).is_ok());
+    assert!(rt; Group::try_from(GroupId { number: 0 }).is_err());
+    assert!(rt; Group::try_from(GroupId { number: u32::MAX }).is_ok());
+    assert!(rt; RadioSet::try_from(15).is_ok() && RadioSet::try_from(16).is_err());
 }
 
 #[test]
@@ -30,7 +30,7 @@ fn radios_of_a_set(rt: HostRuntime) -> Result<(), Fail> {
     assert!(rt; set.bits == 9);
     let expected = [(1, true), (2, false), (3, false), (4, true)];
     for (number, is_in) in expected.iter() {
-        match Radio::of(ClientId { number: *number }) {
+        match Radio::try_from(ClientId { number: *number }) {
             Ok(radio) => assert!(rt; set.has(radio) == *is_in),
             Err(_) => return Err(Fail::new("a radio out of range")),
         }
