@@ -20,7 +20,7 @@ fn check(account: &Account, radio: ClientId, places: usize) -> Result<Radio, Ref
     if places < 24 {
         return Err(Refusal::OutgoingTooShort);
     }
-    let radio = Radio::of(radio)?;
+    let radio = Radio::try_from(radio)?;
     if !account.enrolled {
         return Err(Refusal::NotEnrolled);
     }

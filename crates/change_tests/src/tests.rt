@@ -33,7 +33,7 @@ fn put(rt: &impl Abort, account: &mut Account, radio: u32, entries: &[Entry]) ->
     for one in entries {
         assert!(rt; row.add(*one).is_ok());
     }
-    match Radio::of(ClientId { number: radio }) {
+    match Radio::try_from(ClientId { number: radio }) {
         Ok(radio) => account.put(radio, row),
         Err(_) => return Err(Fail::new("no such radio")),
     }
@@ -64,7 +64,7 @@ fn change_for(
         row.group = group(10 * (i as u32 + 1));
         row.priority = i as u8 + 1;
     }
-    let user = ServedUser::of(McpttId { number: 7 })?;
+    let user = ServedUser::try_from(McpttId { number: 7 })?;
     let radio = ClientId { number: radio };
     let time = Time::of(time)?;
     change(
@@ -85,7 +85,7 @@ fn change_at(
 
 /// LEAVE of a radio of user 7 at 1,000.
 fn leave_now(account: &mut Account, radio: u32, out: &mut [Request]) -> Result<usize, Refusal> {
-    let user = ServedUser::of(McpttId { number: 7 })?;
+    let user = ServedUser::try_from(McpttId { number: 7 })?;
     leave(
         account,
         user,

@@ -9,7 +9,7 @@ use mcptt::{ClientId, Group, GroupId, Radio, Refusal};
 pub(crate) fn checked(radio: ClientId, group: GroupId) -> Result<Radio, Refusal>
     ensures { MatchResult result (λ x. (x.number ≡ radio.number) × ((is_radio radio.number && is_group group.number) ≡ true)) (λ e. ((is_radio radio.number && is_group group.number) ≡ false) × (e ≡ NumberOutOfRange)) }
 {
-    let checked_radio = Radio::of(radio)?;
-    Group::of(group)?;
+    let checked_radio = Radio::try_from(radio)?;
+    Group::try_from(group)?;
     Ok(checked_radio)
 }

@@ -28,8 +28,8 @@ impl Word {
     fn of(group: GroupId, radios: u8, interval: u32, serial: Option<u32>) -> Result<Word, Refusal>
         ensures { MatchResult result (λ w. (heard w ≡ record { group = group.number; radios = radios; interval = interval; serial = serial }) × ((is_group group.number && is_radio_set radios) ≡ true)) (λ e. ((is_group group.number && is_radio_set radios) ≡ false) × (e ≡ NumberOutOfRange)) }
     {
-        Group::of(group)?;
-        let radios = RadioSet::of(radios)?;
+        Group::try_from(group)?;
+        let radios = RadioSet::try_from(radios)?;
         Ok(Word {
             group,
             radios,

@@ -23,7 +23,7 @@ impl Serving {
         ensures refused { is_ok result ≡ false → self.new ≡ self.old }
         ensures others { OthersSame user.number self.old self.new }
     {
-        let served = ServedUser::of(user)?;
+        let served = ServedUser::try_from(user)?;
         let time = self.time;
         notice::begin(
             &mut self.accounts[served.number as usize - 1],

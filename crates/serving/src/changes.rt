@@ -36,7 +36,7 @@ impl Serving {
         if out.len() < PLACES {
             return Err(Refusal::OutgoingTooShort);
         }
-        let served = ServedUser::of(user)?;
+        let served = ServedUser::try_from(user)?;
         let time = self.time;
         let timer = self.settings.timer;
         change::change(
@@ -71,7 +71,7 @@ impl Serving {
         if out.len() < PLACES {
             return Err(Refusal::OutgoingTooShort);
         }
-        let served = ServedUser::of(user)?;
+        let served = ServedUser::try_from(user)?;
         let time = self.time;
         let timer = self.settings.timer;
         change::leave(

@@ -25,7 +25,7 @@ impl Serving {
         ensures stays { is_yes result ≡ false → self.new ≡ self.old }
         ensures others { OthersSame user.number self.old self.new }
     {
-        let served = ServedUser::of(user)?;
+        let served = ServedUser::try_from(user)?;
         let time = self.time;
         notice::complete(
             &mut self.accounts[served.number as usize - 1],

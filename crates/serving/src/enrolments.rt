@@ -42,7 +42,7 @@ impl Serving {
         ensures refused { is_ok result ≡ false → self.new ≡ self.old }
         ensures others { OthersSame user.number self.old self.new }
     {
-        let served = ServedUser::of(user)?;
+        let served = ServedUser::try_from(user)?;
         let place = served.number as usize - 1;
         if self.accounts[place].enrolled {
             return Err(Refusal::AlreadyEnrolled);

@@ -24,7 +24,7 @@ impl Serving {
         ensures refused { is_ok result ≡ false → self.new ≡ self.old }
         ensures others { OthersSame user.number self.old self.new }
     {
-        let served = ServedUser::of(user)?;
+        let served = ServedUser::try_from(user)?;
         let time = self.time;
         notice::notify(
             &mut self.accounts[served.number as usize - 1],
@@ -45,7 +45,7 @@ impl Serving {
         ensures refused { is_ok result ≡ false → self.new ≡ self.old }
         ensures others { OthersSame user.number self.old self.new }
     {
-        let served = ServedUser::of(user)?;
+        let served = ServedUser::try_from(user)?;
         notice::outcome(
             &mut self.accounts[served.number as usize - 1],
             serial,
@@ -59,7 +59,7 @@ impl Serving {
     pub fn status(&self, user: McpttId, radio: ClientId, group: GroupId) -> Result<bool, Refusal>
         ensures { result ≡ serving_status self.now user.number radio.number group.number }
     {
-        let served = ServedUser::of(user)?;
+        let served = ServedUser::try_from(user)?;
         notice::status(
             &self.accounts[served.number as usize - 1],
             self.time,

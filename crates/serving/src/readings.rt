@@ -38,7 +38,7 @@ impl Serving {
     pub fn is_enrolled(&self, user: McpttId) -> bool
         ensures { result ≡ is_enrolled self.now user.number }
     {
-        match ServedUser::of(user) {
+        match ServedUser::try_from(user) {
             Ok(served) => self.accounts[served.number as usize - 1].enrolled,
             Err(_) => false,
         }
