@@ -1,5 +1,5 @@
 //! The checks that make a checked identity of a number that was handed in.
-ghost use Rattle.std.specs.Prelude.{◌≡◌};
+ghost use Rattle.std.specs.Prelude.{◌≡◌, ◌-◌, ◌<◌};
 ghost use Rattle.mcptt.specs.Ranges.{is_user, is_served, is_radio, is_group, is_radio_set, has_radio, set_of};
 ghost use Rattle.mcptt.specs.Refusals.{Checks};
 
@@ -77,6 +77,26 @@ impl TryFrom<u8> for RadioSet {
     }
 }
 
+impl ServedUser {
+    /// Where the user stands among the 64, counted from 0.
+    pub fn index(self) -> usize
+        ensures place { result ≡ self.number - 1 }
+        ensures within { result < 64 }
+    {
+        self.number as usize - 1
+    }
+}
+
+impl Radio {
+    /// Where the radio stands among the four of its user, counted from 0.
+    pub fn index(self) -> usize
+        ensures place { result ≡ self.number - 1 }
+        ensures within { result < 4 }
+    {
+        self.number as usize - 1
+    }
+}
+
 impl RadioSet {
     /// The set of those radios whose mark is set.
     pub fn marked(one: bool, two: bool, three: bool, four: bool) -> RadioSet
@@ -90,6 +110,6 @@ impl RadioSet {
     pub fn has(self, radio: Radio) -> bool
         ensures { result ≡ has_radio self.bits radio.number }
     {
-        self.bits >> (radio.number - 1) & 1 == 1
+        self.bits >> radio.index() & 1 == 1
     }
 }

@@ -3,7 +3,7 @@ use Rattle.std.specs.Prelude.{ℕ, Bool, true, false, ◌&&◌, List, ◌==◌, 
 use Rattle.rows.specs.declared.entry.Status.{Status}
 use Rattle.rows.specs.declared.entry.Status.TheVariants.{Affiliating, Affiliated, Deaffiliating, Deaffiliated}
 use Rattle.rows.specs.declared.entry.Entry.{Entry}
-use Rattle.rows.specs.Lists.{some}
+use Rattle.std.specs.List.{list_any}
 
 -- live while its end is later than the time
 abbrev pub live : ℕ → Entry → Bool
@@ -41,8 +41,8 @@ living time group e = of_group group e && live time e
 
 -- the row of a radio holds the group
 abbrev pub holds : ℕ → ℕ → List Entry → Bool
-holds time group entries = some (holding time group) entries
+holds time group entries = list_any (holding time group) entries
 
 -- the row has a live entry of the group
 abbrev pub lives : ℕ → ℕ → List Entry → Bool
-lives time group entries = some (living time group) entries
+lives time group entries = list_any (living time group) entries

@@ -1,37 +1,31 @@
 //! Questions about one entry.
-ghost use Rattle.std.specs.Prelude.{◌≡◌, ◌&&◌};
-ghost use Rattle.rows.specs.Entries.{is_affiliating, on, held, holding};
+ghost use Rattle.std.specs.Prelude.{◌≡◌};
+ghost use Rattle.rows.specs.Entries.{is_affiliating, on, held};
 
 use crate::entry::{Entry, Status};
 use mcptt::GroupId;
-use table::{Key, Record, Test, is_live};
+use table::{Record, is_live};
 
 impl Status {
     /// Whether it is affiliating.
     pub fn is_affiliating(self) -> bool
         ensures { result ≡ is_affiliating self }
     {
-        match self {
-            Status::Affiliating => true,
-            Status::Affiliated | Status::Deaffiliating | Status::Deaffiliated => false,
-        }
+        self == Status::Affiliating
     }
 
     /// Whether it is affiliating or affiliated.
     pub fn is_on(self) -> bool
         ensures { result ≡ on self }
     {
-        match self {
-            Status::Affiliating | Status::Affiliated => true,
-            Status::Deaffiliating | Status::Deaffiliated => false,
-        }
+        matches!(self, Status::Affiliating | Status::Affiliated)
     }
 }
 
 impl Record for Entry {
     type Id = GroupId;
 
-    ghost ident = { λ e. e.group.number };
+    ghost ident = { λ e. e.group };
 
     ghost until = { λ e. e.end };
 
@@ -50,20 +44,5 @@ impl Entry {
         ensures { result ≡ held time self.now }
     {
         is_live(self, time) && self.status.is_on()
-    }
-}
-
-/// Passes the live entries of a group that are affiliating or affiliated.
-#[derive(Clone, Copy)]
-pub(crate) struct Holding {
-    pub(crate) group: GroupId,
-    pub(crate) time: u64,
-}
-
-impl Test<Entry> for Holding {
-    ghost holds = { λ t e. holding t.time t.group.number e };
-
-    fn passes(&self, one: &Entry) -> bool {
-        one.group.same(&self.group) && one.is_held(self.time)
     }
 }

@@ -2,7 +2,7 @@
 use mcptt::GroupId;
 
 /// How an affiliation stands.
-#[derive(Clone, Copy, PartialEq, Eq)]
+#[derive(Clone, Copy, Debug, PartialEq, Eq)]
 pub enum Status {
     Affiliating,
     Affiliated,
@@ -12,7 +12,7 @@ pub enum Status {
 
 /// The affiliation of a radio to a group, until its end time in seconds. The serial is that of the
 /// request, or of the implicit affiliation, by which it was last made affiliating.
-#[derive(Clone, Copy)]
+#[derive(Clone, Copy, Debug, PartialEq, Eq)]
 pub struct Entry {
     pub group: GroupId,
     pub status: Status,

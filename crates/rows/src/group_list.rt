@@ -1,13 +1,9 @@
 //! A short list of groups.
-ghost use Rattle.std.specs.Prelude.{◌≤◌};
-
 use mcptt::GroupId;
+use table::Slots;
 
-/// Some groups: the first `count` of the places, in order. There is a place for each entry of four
-/// rows.
+/// Some groups, in order. There is a place for each entry of four rows.
 #[derive(Clone, Copy)]
 pub struct Groups {
-    pub places: [GroupId; 96],
-    pub count: usize,
-    ghost within: { count ≤ 96 },
+    pub groups: Slots<GroupId, 96>,
 }

@@ -7,17 +7,15 @@ mod entries;
 mod entry;
 mod group_list;
 mod groups;
-mod lists;
 mod request;
 mod row;
 mod rows;
 mod time;
 mod times;
 
-pub use account::Account;
+pub use account::{Account, Enrolment};
 pub use entry::{Entry, Status};
 pub use group_list::Groups;
-pub use lists::{Is, any};
 pub use request::Request;
 pub use row::Row;
 pub use time::Time;

@@ -1,12 +1,9 @@
 //! The row of a radio.
-ghost use Rattle.std.specs.Prelude.{◌≤◌};
-
 use crate::entry::Entry;
+use table::Slots;
 
-/// The entries of one radio: the first `count` of the 24 places, in order.
+/// The entries of one radio, in order: at most 24.
 #[derive(Clone, Copy)]
 pub struct Row {
-    pub entries: [Entry; 24],
-    pub count: usize,
-    ghost within: { count ≤ 24 },
+    pub entries: Slots<Entry, 24>,
 }

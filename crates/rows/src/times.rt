@@ -13,14 +13,18 @@ impl Time {
     {
         Time { seconds: 0 }
     }
+}
 
-    /// The time, or refusal 3 above 1,099,511,627,776.
-    pub fn of(seconds: u64) -> Result<Time, Refusal>
-        ensures { MatchResult result (λ t. t.seconds ≡ seconds) (λ e. (is_time seconds ≡ false) × (e ≡ TimeTooFar)) }
-    {
-        if seconds > 1_099_511_627_776 {
-            return Err(Refusal::TimeTooFar);
+/// The time, or refusal 3 above 1,099,511,627,776.
+impl TryFrom<u64> for Time {
+    type Error = Refusal;
+
+    ghost try_from_gives = { λ seconds r. MatchResult r (λ t. t.seconds ≡ seconds) (λ e. (is_time seconds ≡ false) × (e ≡ TimeTooFar)) };
+
+    fn try_from(seconds: u64) -> Result<Time, Refusal> {
+        match seconds {
+            0..=1_099_511_627_776 => Ok(Time { seconds }),
+            _ => Err(Refusal::TimeTooFar),
         }
-        Ok(Time { seconds })
     }
 }

@@ -3,5 +3,5 @@ use Rattle.std.specs.Prelude.{ℕ, List, take}
 use Rattle.table.specs.declared.owned.Slots.{Slots}
 
 -- the records, in order
-abbrev pub listed : {T : Type 0} {N : ℕ} → Slots T N → List T
-listed s = take s.count s.places
+abbrev pub items : {T : Type 0} {N : ℕ} → Slots T N → List T
+items s = take s.count s.places

@@ -52,6 +52,7 @@ impl<'a, T: Copy> Table<'a, T> {
     }
 
     /// Puts a record in the place of another.
+    #[tactic(auto, using(crate::proofs::Parts::take_set_in))]
     pub fn replace(&mut self, i: usize, new: T)
         requires { i < self.old.count.now }
         ensures count { self.new.count.now ≡ self.old.count.now }

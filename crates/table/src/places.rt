@@ -1,6 +1,6 @@
 //! What places with a count do, each by a table over them.
 ghost use Rattle.std.specs.Prelude.{take, ◌≡◌, Bool, ◌+◌, ◌<◌, ◌≤◌, [], ◌∷◌, ◌++◌, length, drop, is_ok, if◌then◌else◌, count_by, filter, nat_lt, replicate, slice_set};
-ghost use Rattle.table.specs.Kept.{listed};
+ghost use Rattle.table.specs.Kept.{items};
 ghost use Rattle.table.specs.Views.{Answers};
 
 use crate::lent::Table;
@@ -12,7 +12,7 @@ impl<T: Copy, const N: usize> Slots<T, N> {
     pub fn empty(free: T) -> Slots<T, N>
         ensures count { result.count ≡ 0 }
         ensures places { result.places ≡ replicate N free }
-        ensures listed { listed result ≡ [] }
+        ensures items { items result ≡ [] }
     {
         Slots {
             places: [free; N],
@@ -22,8 +22,9 @@ impl<T: Copy, const N: usize> Slots<T, N> {
 
     /// The records, in order.
     pub fn as_slice(&self) -> &[T]
-        ensures listed { result.now ≡ listed self.now }
+        ensures items { result.now ≡ items self.now }
         ensures count { length result.now ≡ self.now.count }
+        ensures fits { length result.now ≤ N }
     {
         &self.places[..self.count]
     }
@@ -31,7 +32,7 @@ impl<T: Copy, const N: usize> Slots<T, N> {
     /// How many there are.
     pub fn len(&self) -> usize
         ensures count { result ≡ self.now.count }
-        ensures len { result ≡ length (listed self.now) }
+        ensures len { result ≡ length (items self.now) }
     {
         self.as_slice().len()
     }
@@ -41,7 +42,7 @@ impl<T: Copy, const N: usize> Slots<T, N> {
         ensures fits { is_ok result ≡ nat_lt self.old.count N }
         ensures count { self.new.count ≡ (if is_ok result then self.old.count + 1 else self.old.count) }
         ensures places { self.new.places ≡ (if is_ok result then slice_set self.old.places self.old.count new else self.old.places) }
-        ensures listed { listed self.new ≡ (if is_ok result then listed self.old ++ new ∷ [] else listed self.old) }
+        ensures items { items self.new ≡ (if is_ok result then items self.old ++ new ∷ [] else items self.old) }
     {
         add(&mut self.places, &mut self.count, new)
     }
@@ -50,7 +51,7 @@ impl<T: Copy, const N: usize> Slots<T, N> {
     pub fn push(&mut self, new: T)
         requires { self.old.count < N }
         ensures count { self.new.count ≡ self.old.count + 1 }
-        ensures listed { listed self.new ≡ listed self.old ++ new ∷ [] }
+        ensures items { items self.new ≡ items self.old ++ new ∷ [] }
     {
         // It cannot be full.
         let _ = self.add(new);
@@ -59,8 +60,8 @@ impl<T: Copy, const N: usize> Slots<T, N> {
     /// Keeps the records that pass, in their order, and closes up.
     pub fn retain<F: Fn(&T) -> bool>(&mut self, test: F)
         requires { F.IsAlwaysCallable test }
-        ensures count { (p : T → Bool) → Answers F.Fn p test → self.new.count ≡ count_by p (listed self.old) }
-        ensures listed { (p : T → Bool) → Answers F.Fn p test → listed self.new ≡ filter p (listed self.old) }
+        ensures count { (p : T → Bool) → Answers F.Fn p test → self.new.count ≡ count_by p (items self.old) }
+        ensures items { (p : T → Bool) → Answers F.Fn p test → items self.new ≡ filter p (items self.old) }
         ensures fewer { self.new.count ≤ self.old.count }
         ensures behind { drop self.new.count self.new.places ≡ drop self.new.count self.old.places }
     {

@@ -1,6 +1,6 @@
 use Rattle.std.proofs.Common.{arith, rules}
 use Rattle.rows.proofs.Radios.{gathered_more, gathered_all}
-use Rattle.rows.proofs.rows.gather.Goals as goal
+use Rattle.rows.proofs.group_list.Groups.gather.Goals as goal
 
 pub loop-entry-preserved : goal.loop-entry-preserved
 loop-entry-preserved c = (omega arith, search (rules, gathered_more))

@@ -1,9 +1,0 @@
-use Rattle.std.proofs.Common.{◌≡◌, ◌+◌, ◌≤◌, drop}
-use Rattle.rows.specs.Holdings.{gathered}
-use Rattle.rows.specs.Lists.{listed}
-use Rattle.rows.proofs.rows.gather.Given as goal
-
-abbrev pub invariant-loop-entry : goal.invariant-loop-entry
-invariant-loop-entry l =
-    (l.found.count ≤ l.initial.found.count + l.entry-index)
-    × (gathered l.time (drop l.entry-index l.entries) (listed l.found) ≡ gathered l.time l.entries (listed l.initial.found))
