@@ -1,2 +1,3 @@
+mod Adding
 mod Calls
 pub mod Parts

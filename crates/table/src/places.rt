@@ -1,5 +1,6 @@
 //! What places with a count do, each by a table over them.
-ghost use Rattle.std.specs.Prelude.{take, ◌≡◌, Bool, ◌+◌, ◌<◌, ◌≤◌, [], ◌∷◌, ◌++◌, length, drop, is_ok, if◌then◌else◌, count_by, filter, nat_lt, replicate, slice_set};
+ghost use Rattle.std.specs.Prelude.{take, ◌≡◌, Bool, ◌+◌, ◌<◌, ◌≤◌, [], ◌∷◌, ◌++◌, length, drop, is_ok, if◌then◌else◌, count_by, filter, nat_lt, map, Option, replicate, slice_set};
+ghost use Rattle.std.specs.List.{filter_map};
 ghost use Rattle.table.specs.Kept.{items};
 ghost use Rattle.table.specs.Views.{Answers};
 
@@ -57,6 +58,29 @@ impl<T: Copy, const N: usize> Slots<T, N> {
         let _ = self.add(new);
     }
 
+    /// Adds, in order, what the closure makes of these values, and nothing where it makes none.
+    pub fn add_each<X, F: Fn(&X) -> Option<T>>(&mut self, from: &[X], make: F)
+        requires fits { self.old.count + length from.now ≤ N }
+        requires callable { F.IsAlwaysCallable make }
+        ensures count { self.new.count ≤ self.old.count + length from.now }
+        ensures items { (p : X → Option T) → Answers F.Fn p make → items self.new ≡ items self.old ++ filter_map p from.now }
+    {
+        for one in from {
+            if let Some(new) = make(one) {
+                self.push(new);
+            }
+        }
+    }
+
+    /// Puts in the place of each record what the closure makes of it.
+    pub fn replace_each<F: Fn(&T) -> T>(&mut self, make: F)
+        requires { F.IsAlwaysCallable make }
+        ensures count { self.new.count ≡ self.old.count }
+        ensures items { (p : T → T) → Answers F.Fn p make → items self.new ≡ map p (items self.old) }
+    {
+        replace_each(&mut self.places[..self.count], make);
+    }
+
     /// Keeps the records that pass, in their order, and closes up.
     pub fn retain<F: Fn(&T) -> bool>(&mut self, test: F)
         requires { F.IsAlwaysCallable test }
@@ -93,4 +117,14 @@ fn retain<T: Copy, F: Fn(&T) -> bool>(slots: &mut [T], count: usize, test: F) ->
     let mut table = Table::over(slots, &mut left);
     table.retain(test);
     left
+}
+
+/// Puts in the place of each record what the closure makes of it.
+fn replace_each<T: Copy, F: Fn(&T) -> T>(slots: &mut [T], make: F)
+    requires { F.IsAlwaysCallable make }
+    ensures { (p : T → T) → Answers F.Fn p make → slots.new ≡ map p slots.old }
+{
+    for one in slots.iter_mut() {
+        *one = make(one);
+    }
 }
