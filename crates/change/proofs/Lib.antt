@@ -1,4 +1,4 @@
-mod Loops
 mod Filling
-mod Settling
+mod Loops
 mod Planning
+mod Settling

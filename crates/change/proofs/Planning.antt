@@ -1,51 +1,32 @@
 -- What the plan of a CHANGE comes to.
-use Rattle.std.proofs.Common.{◌≡◌, ℕ, ◌+◌, ◌*◌, Bool, true, false, cond, not, eqb, ltb, List, length, Some, None, Option, ap, ◌∙◌, arith}
+use Rattle.std.proofs.Common.{◌≡◌, ℕ, ◌+◌, ◌*◌, ◌≤◌, true, false, List, length, nat_lt, None, ap, ◌∙◌, arith}
 use Rattle.std.proofs.lemmas.Bool.Decides.{nat_tests}
 use Rattle.mcptt.specs.declared.identity.GroupId.{GroupId}
-use Rattle.mcptt.specs.declared.refusal.Refusal.{Refusal}
-use Rattle.mcptt.specs.declared.refusal.Refusal.TheVariants.{IntervalZero, WantedListFaulty, SerialsUsedUp, RowTooLong}
+use Rattle.rows.specs.declared.entry.Entry.{Entry}
 use Rattle.rows.specs.Holdings.{row_of, held_elsewhere}
 use Rattle.rows.specs.Standings.{Standing}
 use Rattle.change.specs.declared.plan.Move.{Move}
-use Rattle.change.specs.Keeping.{kept_of}
+use Rattle.change.specs.Keeping.{kept_of, may_want}
 use Rattle.change.specs.Moves.{changed_row}
-use Rattle.change.specs.Changes.{Moment, Change, first_refusal, kept_groups, change_moves}
+use Rattle.change.specs.Changes.{Moment, Change, first_refusal, change_refusal, kept_groups, change_moves, last_serial}
 
--- the groups chosen, the moves planned, and whether they are too many, are those of the definitions
-pub record Planned (m : Moment) (s : Standing) (c : Change) (chosen : List GroupId) (moves : List Move) (too_long : Bool) : Type 0 where
-  pub groups : chosen ≡ kept_groups m s c
-  pub row : moves ≡ change_moves m s c
-  pub length_tested : too_long ≡ ltb 24 (length (change_moves m s c))
+module _ (m : Moment) (s : Standing) (c : Change) where
+  -- the groups chosen are those of the definitions; r is the radio as it was checked
+  pub as_kept : (r limit : ℕ) (others chosen : List GroupId) → r ≡ c.radio → limit ≡ s.limit → others ≡ held_elsewhere m.time r s.rows
+      → chosen ≡ kept_of m.before others limit c.wanted → chosen ≡ kept_groups m s c
+  as_kept r limit others chosen e l o k =
+      k
+      ∙ ap (λ z. kept_of m.before z limit c.wanted) (o ∙ ap (λ z. held_elsewhere m.time z s.rows) e)
+      ∙ ap (λ z. kept_of m.before (held_elsewhere m.time c.radio s.rows) z c.wanted) l
 
--- r is the radio as it was checked
-pub as_planned : (m : Moment) (s : Standing) (c : Change) (r : ℕ) (others chosen : List GroupId) (moves : List Move) (too_long : Bool) → r ≡ c.radio
-    → others ≡ held_elsewhere m.time r s.rows → chosen ≡ kept_of m.before others s.limit c.wanted
-    → moves ≡ changed_row chosen m.time (m.time + c.interval) (m.time + 2 * m.timer) (row_of s.rows r)
-    → too_long ≡ ltb 24 (length moves)
-    → Planned m s c chosen moves too_long
-as_planned m s c r others chosen moves too_long e o k l t =
-    let groups : chosen ≡ kept_groups m s c
-    = k ∙ ap (λ z. kept_of m.before z s.limit c.wanted) (o ∙ ap (λ z. held_elsewhere m.time z s.rows) e) in
-    let row : moves ≡ change_moves m s c
-    = l
-    ∙ ap (λ z. changed_row z m.time (m.time + c.interval) (m.time + 2 * m.timer) (row_of s.rows r)) groups
-    ∙ ap (λ z. changed_row (kept_groups m s c) m.time (m.time + c.interval) (m.time + 2 * m.timer) (row_of s.rows z)) e in
-    record { groups = groups; row = row; length_tested = t ∙ ap (λ z. ltb 24 (length z)) row }
+  -- and so are the moves planned
+  pub as_planned : (r t u v : ℕ) (row : List Entry) (chosen : List GroupId) (moves : List Move) → r ≡ c.radio → chosen ≡ kept_groups m s c
+      → t ≡ m.time → u ≡ m.time + c.interval → v ≡ m.time + 2 * m.timer → row ≡ row_of s.rows r → moves ≡ changed_row chosen t u v row → moves ≡ change_moves m s c
+  as_planned r t u v row chosen moves e k t-is u-is v-is w p =
+      p
+      ∙ (λ i. changed_row (k i) (t-is i) (u-is i) (v-is i) ((w ∙ ap (row_of s.rows) e) i))
 
--- the refusals of CHANGE behind the first three, by what they test
-abbrev later_refusal : ℕ → Bool → Bool → Bool → Option Refusal
-later_refusal interval fit used-up too_long =
-    cond (eqb interval 0) (Some IntervalZero)
-    (cond (not fit) (Some WantedListFaulty)
-    (cond used-up (Some SerialsUsedUp)
-    (cond too_long (Some RowTooLong) None)))
-
-module _
-    (places radio : ℕ) (enrolled : Bool) (interval : ℕ) (fit used-up too_long : Bool)
-    (first : first_refusal places radio enrolled None ≡ None) (some-time : interval ≡ 0 → ⊥) (fits : true ≡ fit) (serials : false ≡ used-up)
-  where
-    pub refused_too_long : true ≡ too_long → first_refusal places radio enrolled (later_refusal interval fit used-up too_long) ≡ Some RowTooLong
-    refused_too_long h = grind (arith, nat_tests)
-
-    pub refused_none : false ≡ too_long → first_refusal places radio enrolled (later_refusal interval fit used-up too_long) ≡ None
-    refused_none h = grind (arith, nat_tests)
+  -- with what was tested, nothing is refused
+  pub refused_none : (moves : List Move) → first_refusal c.places c.radio s.enrolled None ≡ None → (c.interval ≡ 0 → ⊥) → true ≡ may_want c.wanted
+      → false ≡ nat_lt last_serial s.next → moves ≡ change_moves m s c → length moves ≤ 24 → change_refusal m s c ≡ None
+  refused_none moves first some-time fits serials p few = grind (arith, nat_tests, ap length p)

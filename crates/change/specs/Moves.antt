@@ -1,6 +1,6 @@
 -- What becomes of the entries of a row.
-use Rattle.std.specs.Prelude.{ℕ, Bool, cond, List, [], ◌∷◌, ◌++◌, map, take}
-use Rattle.std.specs.List.{flat_map}
+use Rattle.std.specs.Prelude.{ℕ, Bool, cond, List, ◌++◌, map, Some, None, Option}
+use Rattle.std.specs.List.{filter_map}
 use Rattle.mcptt.specs.declared.identity.GroupId.{GroupId}
 use Rattle.rows.specs.declared.entry.Status.{Status}
 use Rattle.rows.specs.declared.entry.Status.TheVariants.{Affiliating, Affiliated, Deaffiliating, Deaffiliated}
@@ -10,7 +10,6 @@ use Rattle.rows.specs.Entries.{live, lives}
 use Rattle.change.specs.declared.plan.Sending.{Sending}
 use Rattle.change.specs.declared.plan.Sending.TheVariants.{Silent, Affiliate, Release}
 use Rattle.change.specs.declared.plan.Move.{Move}
-use Rattle.change.specs.declared.move_list.Moves.{Moves}
 
 -- the entry with another status and end
 abbrev pub turned : Entry → Status → ℕ → Entry
@@ -35,18 +34,18 @@ given_up gone e Deaffiliating = move e Silent
 given_up gone e Deaffiliated = move e Silent
 
 -- what becomes of an entry: one that is not live is dropped
-abbrev pub moved : List GroupId → ℕ → ℕ → ℕ → Entry → List Move
+abbrev pub moved : List GroupId → ℕ → ℕ → ℕ → Entry → Option Move
 moved keep time until gone e =
-    cond (live time e) (cond (member e.group.number keep) (renewed until e e.status) (given_up gone e e.status) ∷ []) []
+    cond (live time e) (Some (cond (member e.group.number keep) (renewed until e e.status) (given_up gone e e.status))) None
 
 -- a kept group without a live entry begins a new one, which asks
-abbrev pub begun : List Entry → ℕ → ℕ → GroupId → List Move
+abbrev pub begun : List Entry → ℕ → ℕ → GroupId → Option Move
 begun entries time until g =
-    cond (lives time g.number entries) [] (move (record { group = g; status = Affiliating; end = until; serial = 0 }) Affiliate ∷ [])
+    cond (lives time g.number entries) None (Some (move (record { group = g; status = Affiliating; end = until; serial = 0 }) Affiliate))
 
 -- the row that CHANGE makes: entries in place, then new ones in the order of the kept groups
 abbrev pub changed_row : List GroupId → ℕ → ℕ → ℕ → List Entry → List Move
-changed_row keep time until gone entries = flat_map (moved keep time until gone) entries ++ flat_map (begun entries time until) keep
+changed_row keep time until gone entries = filter_map (moved keep time until gone) entries ++ filter_map (begun entries time until) keep
 
 -- the request for an entry that LEAVE gives up: a release where it was live and affiliated
 abbrev pub released : Status → Bool → Sending
@@ -62,7 +61,3 @@ left time gone e = move (turned e Deaffiliating gone) (released e.status (live t
 -- the row that LEAVE makes
 abbrev pub left_row : ℕ → ℕ → List Entry → List Move
 left_row time gone entries = map (left time gone) entries
-
--- the moves of a list of them
-abbrev pub planned : Moves → List Move
-planned ms = take ms.count ms.places

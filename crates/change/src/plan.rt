@@ -2,7 +2,7 @@
 use rows::Entry;
 
 /// The request that an entry gives rise to.
-#[derive(Clone, Copy)]
+#[derive(Clone, Copy, Debug, PartialEq, Eq)]
 pub enum Sending {
     /// None.
     Silent,
@@ -13,7 +13,7 @@ pub enum Sending {
 }
 
 /// An entry of the new row, before it has the serial of its request, and its request.
-#[derive(Clone, Copy)]
+#[derive(Clone, Copy, Debug, PartialEq, Eq)]
 pub struct Move {
     pub entry: Entry,
     pub sending: Sending,

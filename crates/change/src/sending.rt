@@ -1,22 +1,19 @@
 //! The serials of a new row, and the requests that go out.
-ghost use Rattle.std.specs.Prelude.{◌≡◌, ◌+◌, ◌-◌, ◌^◌, ◌<◌, ◌≤◌, ◌++◌, length, drop, slice_set};
+ghost use Rattle.std.specs.Prelude.{◌≡◌, ◌+◌, ◌-◌, ◌^◌, ◌<◌, ◌≤◌, ◌++◌, length, drop, Some, slice_set};
 ghost use Rattle.rows.specs.Standings.{used, standing, SameOthers};
-ghost use Rattle.change.specs.Moves.{planned};
+ghost use Rattle.table.specs.Kept.{items};
 ghost use Rattle.change.specs.Requests.{sends, serial_after, with_serial, settled, request_for, requests_for};
 
-use crate::move_list::Moves;
 use crate::plan::{Move, Sending};
-use mcptt::{GroupId, McpttId, Radio, ServedUser};
-use rows::{Account, Entry, Request, Row};
+use crate::planned::Plan;
+use mcptt::{GroupId, McpttId, ServedUser};
+use rows::{Account, Enrolment, Entry, Request, Row, Time};
 
 impl Sending {
     fn sends(self) -> bool
         ensures { result ≡ sends self }
     {
-        match self {
-            Sending::Silent => false,
-            Sending::Affiliate | Sending::Release => true,
-        }
+        self != Sending::Silent
     }
 
     fn serial_after(self, serial: u32) -> u32
@@ -58,10 +55,10 @@ fn settle(moves: &[Move], next: u32) -> Row
 }
 
 /// The request for a group, which names the radios that now hold it.
-fn request(account: &Account, user: ServedUser, group: GroupId, serial: u32, time: u64) -> Request
-    ensures { result ≡ request_for user.number time (standing account.now).rows serial group }
+fn request(account: &Account, user: ServedUser, group: GroupId, serial: u32, time: Time) -> Request
+    ensures { result ≡ request_for user.number time.seconds (standing account.now).rows serial group }
 {
-    let radios = account.radios_holding(group, time).bits;
+    let radios = account.radios_holding(group, time.seconds).bits;
     Request {
         user: McpttId {
             number: user.number,
@@ -79,14 +76,15 @@ fn send(
     user: ServedUser,
     moves: &[Move],
     next: u32,
-    time: u64,
+    time: Time,
     out: &mut [Request],
 ) -> usize
     requires { (length moves.now ≤ 24) × ((length moves.now ≤ length out.old) × (next + 25 ≤ 2 ^ 32)) }
     ensures few { result ≤ 24 }
-    ensures count { result ≡ length (requests_for user.number time (standing account.now).rows next moves.now) }
-    ensures out { out.new ≡ requests_for user.number time (standing account.now).rows next moves.now ++ drop result out.old }
+    ensures count { result ≡ length (requests_for user.number time.seconds (standing account.now).rows next moves.now) }
+    ensures out { out.new ≡ requests_for user.number time.seconds (standing account.now).rows next moves.now ++ drop result out.old }
 {
+    // Not only an index: it is the answer, and it numbers the requests.
     let mut sent = 0;
     for one in moves {
         if one.sending.sends() {
@@ -101,23 +99,24 @@ fn send(
 pub(crate) fn carry_out(
     account: &mut Account,
     user: ServedUser,
-    radio: Radio,
-    moves: &Moves,
-    time: u64,
+    plan: &Plan,
+    time: Time,
     out: &mut [Request],
 ) -> usize
-    requires { (moves.now.count ≤ 24) × ((24 ≤ length out.old) × (account.old.next_serial + 25 ≤ 2 ^ 32)) }
-    ensures enrolled { account.new.enrolled ≡ account.old.enrolled }
-    ensures limit { account.new.limit ≡ account.old.limit }
-    ensures next { account.new.next_serial ≡ account.old.next_serial + result }
-    ensures others { SameOthers radio.number account.old account.new }
-    ensures rows { (standing account.new).rows ≡ slice_set (standing account.old).rows (radio.number - 1) (settled account.old.next_serial (planned moves.now)) }
-    ensures count { result ≡ length (requests_for user.number time (standing account.new).rows account.old.next_serial (planned moves.now)) }
-    ensures out { out.new ≡ requests_for user.number time (standing account.new).rows account.old.next_serial (planned moves.now) ++ drop result out.old }
+    requires { (24 ≤ length out.old) × (account.old.enrolment ≡ Some plan.now.enrolment) }
+    ensures enrolment { account.new.enrolment ≡ Some (record { limit = plan.now.enrolment.limit; next_serial = plan.now.enrolment.next_serial + result }) }
+    ensures others { SameOthers plan.now.radio.number account.old account.new }
+    ensures rows { (standing account.new).rows ≡ slice_set (standing account.old).rows (plan.now.radio.number - 1) (settled plan.now.enrolment.next_serial (items plan.now.moves)) }
+    ensures count { result ≡ length (requests_for user.number time.seconds (standing account.new).rows plan.now.enrolment.next_serial (items plan.now.moves)) }
+    ensures out { out.new ≡ requests_for user.number time.seconds (standing account.new).rows plan.now.enrolment.next_serial (items plan.now.moves) ++ drop result out.old }
 {
-    let next = account.next_serial;
-    account.put(radio, settle(&moves.places[..moves.count], next));
-    let sent = send(account, user, &moves.places[..moves.count], next, time, out);
-    account.next_serial = next + sent as u32;
+    let moves = plan.moves.as_slice();
+    let next = plan.enrolment.next_serial;
+    account.put(plan.radio, settle(moves, next));
+    let sent = send(account, user, moves, next, time, out);
+    account.enrolment = Some(Enrolment {
+        next_serial: next + sent as u32,
+        ..plan.enrolment
+    });
     sent
 }

@@ -1,14 +1,15 @@
 //! What an account tells of its user.
-ghost use Rattle.std.specs.Prelude.{◌≡◌, ◌+◌, ◌-◌, ◌≤◌, IsSome, slice_set};
+ghost use Rattle.std.specs.Prelude.{◌≡◌, ◌+◌, ◌-◌, ◌≤◌, IsSome, Some, None, MatchResult, slice_set};
+ghost use Rattle.mcptt.specs.declared.refusal.Refusal.TheVariants.{NotEnrolled};
 ghost use Rattle.rows.specs.Entries.{holds};
 ghost use Rattle.rows.specs.Holdings.{row_of, user_holds, held_without, held_elsewhere, held_groups, radios_holding, number_of, is_left_out};
 ghost use Rattle.rows.specs.Lists.{listed};
 ghost use Rattle.rows.specs.Standings.{used, standing, unused, SameOthers};
 
-use crate::account::Account;
+use crate::account::{Account, Enrolment};
 use crate::group_list::Groups;
 use crate::row::Row;
-use mcptt::{GroupId, Radio, RadioSet};
+use mcptt::{GroupId, Radio, RadioSet, Refusal};
 
 /// Whether the row at a place is that of the radio that is left out, if one is.
 fn is_left_out(left_out: Option<Radio>, place: usize) -> bool
@@ -26,6 +27,13 @@ impl Account {
             enrolment: None,
             rows: [Row::new(); 4],
         }
+    }
+
+    /// The enrolment, or refusal 8 where there is none.
+    pub fn enrolled(&self) -> Result<Enrolment, Refusal>
+        ensures { MatchResult result (λ e. self.now.enrolment ≡ Some e) (λ e. (self.now.enrolment ≡ None) × (e ≡ NotEnrolled)) }
+    {
+        self.enrolment.ok_or(Refusal::NotEnrolled)
     }
 
     /// The row of a radio.

@@ -11,15 +11,15 @@ loop-one-preserved c =
     elim c.if-sends.branch [
       | then-sends w ↦ (
         omega (arith, w.sent-is),
-        rw (w.out-is, w.sent-is) (filling_set (filling_as c.loop-one.invariant.1 (requests-yes _ c.args.time (standing c.args.account.now).rows c.args.next c.loop-one.sent _ _ _ c.loop-one-test.true _ w.request.ensures (sym c.sends.ensures ∙ w.if-sends.true))) room),
+        rw (w.out-is, w.sent-is) (filling_set (filling_as c.loop-one.invariant.1 (requests-yes _ c.args.time.seconds (standing c.args.account.now).rows c.args.next c.loop-one.sent _ _ _ c.loop-one-test.true _ w.request.ensures (sym c.sends.ensures ∙ w.if-sends.true))) room),
       )
       | else-sends w ↦ (
         omega (arith, w.sent-is),
-        rw (w.out-is, w.sent-is) (filling_as c.loop-one.invariant.1 (requests-no _ c.args.time (standing c.args.account.now).rows c.args.next c.loop-one.sent _ _ _ c.loop-one-test.true (sym c.sends.ensures ∙ w.if-sends.false))),
+        rw (w.out-is, w.sent-is) (filling_as c.loop-one.invariant.1 (requests-no _ c.args.time.seconds (standing c.args.account.now).rows c.args.next c.loop-one.sent _ _ _ c.loop-one-test.true (sym c.sends.ensures ∙ w.if-sends.false))),
       )
     ]
 
 pub returns : goal.returns
 returns c =
-    let filled = filling_as c.loop-one.invariant.1 (requests_all c.args.user.number c.args.time (standing c.args.account.now).rows (c.args.next + c.loop-one.sent) _ _ c.loop-one-test.false) in
+    let filled = filling_as c.loop-one.invariant.1 (requests_all c.args.user.number c.args.time.seconds (standing c.args.account.now).rows (c.args.next + c.loop-one.sent) _ _ c.loop-one-test.false) in
     record { few = omega arith; count = filling_count filled (omega arith); out = filling_all filled }

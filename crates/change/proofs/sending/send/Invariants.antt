@@ -8,5 +8,5 @@ abbrev pub invariant-loop-one : goal.invariant-loop-one
 invariant-loop-one l =
     (l.sent ≤ l.one-index)
     × Filling l.initial.out l.out l.sent
-    (requests_for l.user.number l.time (standing l.account).rows (l.next + l.sent) (drop l.one-index l.moves))
-    (requests_for l.user.number l.time (standing l.account).rows l.next l.moves)
+    (requests_for l.user.number l.time.seconds (standing l.account).rows (l.next + l.sent) (drop l.one-index l.moves))
+    (requests_for l.user.number l.time.seconds (standing l.account).rows l.next l.moves)
