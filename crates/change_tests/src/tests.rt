@@ -1,8 +1,8 @@
 //! CHANGE and LEAVE of user 7, whose groups 10, 20 and 30 have the priorities 1, 2 and 3. Timer F is 32.
-use change::{change, leave};
+use change::{Clock, Wish, change, leave};
 use mcptt::{ClientId, GroupId, McpttId, Radio, Refusal, ServedUser};
 use preference::{PriorityRow, PriorityTable};
-use rows::{Account, Entry, Request, Row, Status, Time};
+use rows::{Account, Enrolment, Entry, Request, Row, Status, Time};
 use std::process::Abort;
 use std::test::Fail;
 
@@ -21,10 +21,13 @@ fn entry(number: u32, status: Status, end: u64, serial: u32) -> Entry {
 
 fn enrolled(limit: u32, next_serial: u32) -> Account {
     let mut account = Account::unused();
-    account.enrolled = true;
-    account.limit = limit;
-    account.next_serial = next_serial;
+    account.enrolment = Some(Enrolment { limit, next_serial });
     account
+}
+
+/// The next serial of a user who is enrolled.
+fn next_serial(account: &Account) -> Option<u32> {
+    account.enrolment.map(|enrolment| enrolment.next_serial)
 }
 
 /// Gives a radio the row of these entries.
@@ -33,10 +36,10 @@ fn put(rt: &impl Abort, account: &mut Account, radio: u32, entries: &[Entry]) ->
     for one in entries {
         assert!(rt; row.add(*one).is_ok());
     }
-    match Radio::try_from(ClientId { number: radio }) {
-        Ok(radio) => account.put(radio, row),
-        Err(_) => return Err(Fail::new("no such radio")),
-    }
+    let Ok(radio) = Radio::try_from(ClientId { number: radio }) else {
+        return Err(Fail::new("no such radio"));
+    };
+    account.put(radio, row);
     Ok(())
 }
 
@@ -50,6 +53,14 @@ fn no_requests() -> [Request; 24] {
     }; 24]
 }
 
+/// That time, with 32 for timer F.
+fn clock(seconds: u64) -> Result<Clock, Refusal> {
+    Ok(Clock {
+        time: Time::try_from(seconds)?,
+        timer: 32,
+    })
+}
+
 /// CHANGE of a radio of user 7.
 fn change_for(
     interval: u32,
@@ -60,16 +71,17 @@ fn change_for(
     out: &mut [Request],
 ) -> Result<(usize, usize), Refusal> {
     let mut table = PriorityTable::empty();
-    for (i, row) in table.rows.iter_mut().take(3).enumerate() {
-        row.group = group(10 * (i as u32 + 1));
-        row.priority = i as u8 + 1;
+    for (row, priority) in table.rows.iter_mut().zip(1..=3) {
+        row.group = group(10 * u32::from(priority));
+        row.priority = priority;
     }
     let user = ServedUser::try_from(McpttId { number: 7 })?;
-    let radio = ClientId { number: radio };
-    let time = Time::of(time)?;
-    change(
-        account, &table, user, radio, time, 32, interval, wanted, out,
-    )
+    let wish = Wish {
+        radio: ClientId { number: radio },
+        interval,
+        wanted,
+    };
+    change(account, &table, user, clock(time)?, wish, out)
 }
 
 /// CHANGE of a radio of user 7, for 600 seconds.
@@ -86,14 +98,7 @@ fn change_at(
 /// LEAVE of a radio of user 7 at 1,000.
 fn leave_now(account: &mut Account, radio: u32, out: &mut [Request]) -> Result<usize, Refusal> {
     let user = ServedUser::try_from(McpttId { number: 7 })?;
-    leave(
-        account,
-        user,
-        ClientId { number: radio },
-        Time::of(1000)?,
-        32,
-        out,
-    )
+    leave(account, user, ClientId { number: radio }, clock(1000)?, out)
 }
 
 /// Checks an entry of radio 1.
@@ -103,15 +108,8 @@ fn check_entry(
     place: usize,
     expected: Entry,
 ) -> Result<(), Fail> {
-    let row = &account.rows[0];
-    if place >= row.count {
-        return Err(Fail::new("no such entry"));
-    }
-    let found = row.entries[place];
-    assert!(rt; found.group.number == expected.group.number);
-    assert!(rt; found.status == expected.status);
-    assert!(rt; found.end == expected.end);
-    assert!(rt; found.serial == expected.serial);
+    let found = account.rows[0].as_slice().get(place);
+    assert_eq!(rt; *found.ok_or("no such entry")?, expected);
     Ok(())
 }
 
@@ -123,8 +121,14 @@ fn check_request(
     radios: u8,
     expires: u32,
 ) {
-    assert!(rt; sent.user.number == 7 && sent.group.number == number);
-    assert!(rt; sent.serial == serial && sent.radios == radios && sent.expires == expires);
+    let expected = Request {
+        user: McpttId { number: 7 },
+        group: group(number),
+        serial,
+        radios,
+        expires,
+    };
+    assert_eq!(rt; sent, expected);
 }
 
 #[test]
@@ -135,7 +139,7 @@ fn the_limit_goes_by_the_preference(rt: HostRuntime) -> Result<(), Fail> {
     assert!(rt; change_at(1000, &mut account, 1, &wanted, &mut out) == Ok((2, 1)));
     check_entry(&rt, &account, 0, entry(10, Status::Affiliating, 1600, 1))?;
     check_entry(&rt, &account, 1, entry(20, Status::Affiliating, 1600, 2))?;
-    assert!(rt; account.next_serial == 3);
+    assert_eq!(rt; next_serial(&account), Some(3));
     check_request(&rt, out[0], 10, 1, 1, u32::MAX);
     check_request(&rt, out[1], 20, 2, 1, u32::MAX);
     assert!(rt; out[2].expires == 5);
@@ -196,8 +200,8 @@ fn change_refuses(rt: HostRuntime) {
         change_at(0, &mut account, 1, &[group(0)], &mut out) == Err(Refusal::WantedListFaulty)
     );
     assert!(rt; change_at(0, &mut account, 1, &one, &mut out) == Err(Refusal::SerialsUsedUp));
-    assert!(rt; out[0].expires == 5 && account.next_serial == 4_294_967_272);
-    account.next_serial = 4_294_967_271;
+    assert!(rt; out[0].expires == 5 && next_serial(&account) == Some(4_294_967_272));
+    account = enrolled(1, 4_294_967_271);
     assert!(rt; change_at(0, &mut account, 1, &one, &mut out) == Ok((1, 0)));
 }
 
@@ -220,8 +224,8 @@ fn a_row_has_24_entries(rt: HostRuntime) -> Result<(), Fail> {
 #[test]
 fn limits_1_and_16(rt: HostRuntime) {
     let mut wanted = [group(0); 16];
-    for (i, one) in wanted.iter_mut().enumerate() {
-        *one = group(i as u32 + 1);
+    for (one, number) in wanted.iter_mut().zip(1..) {
+        *one = group(number);
     }
     let mut out = no_requests();
     let mut account = enrolled(16, 1);
@@ -266,6 +270,6 @@ fn leave_refuses(rt: HostRuntime) {
     assert!(rt; leave_now(&mut account, 1, &mut out) == Err(Refusal::NotEnrolled));
     account = enrolled(1, 4_294_967_272);
     assert!(rt; leave_now(&mut account, 1, &mut out) == Err(Refusal::SerialsUsedUp));
-    account.next_serial = 4_294_967_271;
+    account = enrolled(1, 4_294_967_271);
     assert!(rt; leave_now(&mut account, 1, &mut out) == Ok(0));
 }

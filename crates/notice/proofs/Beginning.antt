@@ -30,7 +30,7 @@ begun_length time group serial es =
 pub too_long : (time group serial : ℕ) (row : Row) (there : Bool) (n : ℕ) → there ≡ lives time group (used row)
     → n ≡ count_by (live time) (used row) → (not there && eqb n 24) ≡ ltb 24 (length (begun_row time group serial (used row)))
 too_long time group serial row there n is counted =
-    let short : count_by (live time) (used row) ≤ 24 = omega (arith, count_by-le-length (live time) (used row), length-take row.count row.entries, row.within) in
+    let short : count_by (live time) (used row) ≤ 24 = omega (arith, count_by-le-length (live time) (used row), length-take row.entries.count row.entries.places, row.entries.within) in
     by-lives there n (omega arith) ∙ ap₂ (λ b m. ltb 24 (m + cond (not b) 1 0)) is counted ∙ ap (ltb 24) (sym (begun_length time group serial (used row)))
   where
     by-lives : (b : Bool) (m : ℕ) → m ≤ 24 → (not b && eqb m 24) ≡ ltb 24 (m + cond (not b) 1 0)

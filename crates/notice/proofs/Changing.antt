@@ -1,13 +1,7 @@
 -- A pass that changes each of the first places of a list.
-use Rattle.std.proofs.Common.{◌≡◌, ℕ, ◌+◌, ◌-◌, ◌<◌, ◌≤◌, List, [], ◌∷◌, ◌++◌, map, length, get_or, take, drop, set, ap, ◌∙◌, append-nil, arith}
+use Rattle.std.proofs.Common.{◌≡◌, ℕ, ◌+◌, ◌<◌, ◌≤◌, List, [], ◌∷◌, ◌++◌, map, length, get_or, take, drop, set, ap, ◌∙◌, append-nil, arith}
 use Rattle.std.proofs.lemmas.List.{take_all, drop_all, drop_more, take_at, get_or_at, get_or_default, length-append, length-map, length-take, length-drop, length-take-le}
 use Rattle.std.proofs.lemmas.List.Edits.{map_over_more}
-use Rattle.rows.specs.declared.entry.Entry.{Entry}
-use Rattle.rows.specs.declared.row.Row.{Row}
-use Rattle.rows.specs.declared.account.Account.{Account}
-use Rattle.rows.specs.Standings.{used, standing}
-use Rattle.rows.specs.Holdings.{row_of}
-use Rattle.rows.proofs.Radios.{row_read, row_put}
 
 -- ys began as xs, and the first i are changed
 abbrev pub Changed : {X : Type 0} → (X → X) → List X → List X → ℕ → Type 0
@@ -50,12 +44,3 @@ pub counted_all : {X : Type 0} (F : List X → ℕ) (xs : List X) (i n all : ℕ
 counted_all F xs i n all nil h so_far =
     let left : F (drop i xs) ≡ 0 = ap F (drop_all i xs h) ∙ nil in
     omega arith
-
--- one row of an account is written in its place, and its next serial
-pub row_changed : (a : Account) (radio next : ℕ) (old new : Row) (becomes : List Entry → List Entry) → radio - 1 < length a.rows
-    → used new ≡ becomes (used (get_or a.rows (radio - 1) old))
-    → standing (record { enrolled = a.enrolled; limit = a.limit; next_serial = next; rows = set a.rows (radio - 1) new })
-    ≡ record { enrolled = a.enrolled; limit = a.limit; next = next; rows = set (standing a).rows (radio - 1) (becomes (row_of (standing a).rows radio)) }
-row_changed a radio next old new becomes h is =
-    ap (λ rows. record { enrolled = a.enrolled; limit = a.limit; next = next; rows = rows })
-    (row_put a.rows (radio - 1) new ∙ ap (set (map used a.rows) (radio - 1)) (is ∙ ap becomes (row_read a.rows (radio - 1) old h)))

@@ -1,4 +1,4 @@
+mod Beginning
+mod Changing
 mod Passing
 mod Removing
-mod Changing
-mod Beginning

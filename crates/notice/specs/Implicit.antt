@@ -5,7 +5,7 @@ use Rattle.mcptt.specs.declared.refusal.Refusal.{Refusal}
 use Rattle.mcptt.specs.declared.refusal.Refusal.TheVariants.{NumberOutOfRange, NotEnrolled, SerialsUsedUp, RowTooLong, HeldAlready, LimitReached}
 use Rattle.rows.specs.declared.entry.Status.TheVariants.{Affiliating, Affiliated}
 use Rattle.rows.specs.declared.entry.Entry.{Entry}
-use Rattle.rows.specs.Lists.{some}
+use Rattle.std.specs.List.{list_any}
 use Rattle.rows.specs.Entries.{live, of_group, is_affiliating, holds, lives}
 use Rattle.rows.specs.Standings.{Standing}
 use Rattle.rows.specs.Holdings.{row_of, user_holds, held_groups}
@@ -79,7 +79,7 @@ pending_refusal radio group = cond (not (is_radio radio && is_group group)) (Som
 
 -- the radio has such an entry; who is not enrolled has none
 abbrev pub has_pending : (Entry → Bool) → Standing → ℕ → Bool
-has_pending test s radio = s.enrolled && some test (row_of s.rows radio)
+has_pending test s radio = s.enrolled && list_any test (row_of s.rows radio)
 
 -- the answer is yes
 abbrev pub is_yes : Result Bool Refusal → Bool

@@ -9,6 +9,7 @@ use Rattle.rows.specs.declared.entry.Entry.{Entry}
 use Rattle.rows.specs.Entries.{living, holds}
 use Rattle.rows.specs.Standings.{Standing}
 use Rattle.rows.specs.Holdings.{row_of}
+use Rattle.notice.specs.declared.word.Notice.{Notice}
 use Rattle.notice.specs.declared.word.Word.{Word}
 
 -- a NOTIFY: the group, the set of radios listed, an interval, and a serial or none
@@ -17,6 +18,10 @@ pub record Notify : Type 0 where
   pub radios : ℕ
   pub interval : ℕ
   pub serial : Option ℕ
+
+-- what came in
+abbrev pub said : Notice → Notify
+said n = record { group = n.group.number; radios = n.radios; interval = n.interval; serial = n.serial }
 
 -- a word that was checked says the same
 abbrev pub heard : Word → Notify

@@ -3,13 +3,14 @@ ghost use Rattle.std.specs.Prelude.{◌≡◌, ◌≤◌, true, false, ◌&&◌,
 ghost use Rattle.mcptt.specs.Ranges.{is_group, is_radio_set, has_radio};
 ghost use Rattle.mcptt.specs.declared.refusal.Refusal.TheVariants.{NumberOutOfRange};
 ghost use Rattle.rows.specs.Standings.{used, standing};
-ghost use Rattle.notice.specs.Notices.{heard, is_serial, end_by, verdict_on, notified, is_turned, turned_in, rows_told, statuses_told, notify_answer, after_notify, status_answer};
+ghost use Rattle.table.specs.Kept.{items};
+ghost use Rattle.notice.specs.Notices.{said, heard, is_serial, end_by, verdict_on, notified, is_turned, turned_in, rows_told, statuses_told, notify_answer, after_notify, status_answer};
 
 use crate::checks::checked;
-use crate::word::Word;
+use crate::word::{Notice, Word};
 use mcptt::{ClientId, Group, GroupId, Radio, RadioSet, Refusal};
 use rows::{Account, Entry, Row, Status, Time};
-use table::{Key, is_live};
+use table::{Slots, is_live};
 
 /// When an entry ends that takes this status: one that becomes affiliated no later than the owner
 /// says, one that becomes deaffiliated now.
@@ -23,36 +24,37 @@ fn end_by(status: Status, end: u64, time: u64, until: u64) -> u64
     }
 }
 
-impl Word {
-    /// The word, or refusal 5 where the group or the set of radios is out of range.
-    fn of(group: GroupId, radios: u8, interval: u32, serial: Option<u32>) -> Result<Word, Refusal>
-        ensures { MatchResult result (λ w. (heard w ≡ record { group = group.number; radios = radios; interval = interval; serial = serial }) × ((is_group group.number && is_radio_set radios) ≡ true)) (λ e. ((is_group group.number && is_radio_set radios) ≡ false) × (e ≡ NumberOutOfRange)) }
-    {
-        Group::try_from(group)?;
-        let radios = RadioSet::try_from(radios)?;
+/// The word, or refusal 5 where the group or the set of radios is out of range.
+impl TryFrom<Notice> for Word {
+    type Error = Refusal;
+
+    ghost try_from_gives = { λ n r. MatchResult r (λ w. (heard w ≡ said n) × ((is_group n.group.number && is_radio_set n.radios) ≡ true)) (λ e. ((is_group n.group.number && is_radio_set n.radios) ≡ false) × (e ≡ NumberOutOfRange)) };
+
+    fn try_from(notice: Notice) -> Result<Word, Refusal> {
+        Group::try_from(notice.group)?;
+        let radios = RadioSet::try_from(notice.radios)?;
         Ok(Word {
-            group,
+            group: notice.group,
             radios,
-            interval,
-            serial,
+            interval: notice.interval,
+            serial: notice.serial,
         })
     }
+}
 
+impl Word {
     /// Whether it names the serial.
     fn names(&self, serial: u32) -> bool
         ensures { result ≡ is_serial self.now.serial serial }
     {
-        match self.serial {
-            Some(named) => named == serial,
-            None => false,
-        }
+        self.serial.is_some_and(|named| named == serial)
     }
 
     /// What an entry of a radio that is listed or not becomes, if its status changes.
     fn verdict(&self, entry: &Entry, time: Time, listed: bool) -> Option<Status>
         ensures { result ≡ verdict_on time.seconds (heard self.now) listed entry.now }
     {
-        if !entry.group.same(&self.group) || !is_live(entry, time.seconds) {
+        if entry.group != self.group || !is_live(entry, time.seconds) {
             return None;
         }
         match entry.status {
@@ -72,18 +74,17 @@ impl Word {
         ensures turned { result ≡ is_turned (verdict_on time.seconds (heard self.now) listed entry.old) }
         ensures entry { entry.new ≡ notified time.seconds (heard self.now) listed entry.old }
     {
-        match self.verdict(entry, time, listed) {
-            Some(status) => {
-                let until = time.seconds + u64::from(self.interval);
-                entry.end = end_by(status, entry.end, time.seconds, until);
-                entry.status = status;
-                1
-            }
-            None => 0,
-        }
+        let Some(status) = self.verdict(entry, time, listed) else {
+            return 0;
+        };
+        let until = time.seconds + u64::from(self.interval);
+        entry.end = end_by(status, entry.end, time.seconds, until);
+        entry.status = status;
+        1
     }
 
     /// Does so to each of the first `count` entries of a radio, and counts the statuses that changed.
+    // Not the entries alone: the part of an array that lies in a row is not lent with a proof.
     fn tell_first(&self, entries: &mut [Entry], count: usize, time: Time, listed: bool) -> usize
         requires { count ≤ length entries.old }
         ensures few { result ≤ count }
@@ -97,15 +98,23 @@ impl Word {
         turned
     }
 
+    /// Does so to the entries of a row.
+    fn tell_entries(&self, entries: &mut Slots<Entry, 24>, time: Time, listed: bool) -> usize
+        ensures few { result ≤ 24 }
+        ensures turned { result ≡ turned_in time.seconds (heard self.now) listed (items entries.old) }
+        ensures items { items entries.new ≡ map (notified time.seconds (heard self.now) listed) (items entries.old) }
+    {
+        let count = entries.count;
+        self.tell_first(&mut entries.places, count, time, listed)
+    }
+
     /// Does so to the row of a radio.
     fn tell_row(&self, row: &mut Row, time: Time, radio: Radio) -> usize
         ensures few { result ≤ 24 }
         ensures turned { result ≡ turned_in time.seconds (heard self.now) (has_radio self.now.radios.bits radio.number) (used row.old) }
         ensures used { used row.new ≡ map (notified time.seconds (heard self.now) (has_radio self.now.radios.bits radio.number)) (used row.old) }
     {
-        let count = row.count;
-        let listed = self.radios.has(radio);
-        self.tell_first(&mut row.entries, count, time, listed)
+        self.tell_entries(&mut row.entries, time, self.radios.has(radio))
     }
 
     /// Does so to the rows of the four radios.
@@ -115,11 +124,11 @@ impl Word {
         ensures rows { map used rows.new ≡ rows_told time.seconds (heard self.now) (map used rows.old) }
     {
         let mut turned = 0;
-        for k in 0..4 {
+        for (k, row) in rows.iter_mut().enumerate() {
             let radio = Radio {
                 number: k as u32 + 1,
             };
-            turned += self.tell_row(&mut rows[k], time, radio);
+            turned += self.tell_row(row, time, radio);
         }
         turned
     }
@@ -127,22 +136,14 @@ impl Word {
 
 /// NOTIFY: does to the user's entries of the group what its owner says; the answer is how many
 /// statuses changed.
-pub fn notify(
-    account: &mut Account,
-    time: Time,
-    group: GroupId,
-    radios: u8,
-    interval: u32,
-    serial: Option<u32>,
-) -> Result<usize, Refusal>
-    ensures answer { result ≡ notify_answer time.seconds (standing account.old) (record { group = group.number; radios = radios; interval = interval; serial = serial }) }
-    ensures standing { standing account.new ≡ after_notify time.seconds (standing account.old) (record { group = group.number; radios = radios; interval = interval; serial = serial }) }
+#[tactic(auto, unfolding(crate::specs::Notices::notify_answer, crate::specs::Notices::after_notify))]
+pub fn notify(account: &mut Account, time: Time, notice: Notice) -> Result<usize, Refusal>
+    ensures answer { result ≡ notify_answer time.seconds (standing account.old) (said notice) }
+    ensures standing { standing account.new ≡ after_notify time.seconds (standing account.old) (said notice) }
     ensures refused { is_ok result ≡ false → account.new ≡ account.old }
 {
-    let word = Word::of(group, radios, interval, serial)?;
-    if !account.enrolled {
-        return Err(Refusal::NotEnrolled);
-    }
+    let word = Word::try_from(notice)?;
+    account.enrolled()?;
     Ok(word.tell_rows(&mut account.rows, time))
 }
 
@@ -156,8 +157,6 @@ pub fn status(
     ensures { result ≡ status_answer time.seconds (standing account.now) radio.number group.number }
 {
     let radio = checked(radio, group)?;
-    if !account.enrolled {
-        return Err(Refusal::NotEnrolled);
-    }
+    account.enrolled()?;
     Ok(account.holds(radio, group, time.seconds))
 }

@@ -1,58 +1,36 @@
 //! OUTCOME, what became of a request.
-ghost use Rattle.std.specs.Prelude.{◌≡◌, ◌≤◌, false, map, length, take, is_ok, count_by, filter};
+ghost use Rattle.std.specs.Prelude.{◌≡◌, ◌≤◌, false, map, length, is_ok, count_by, filter};
 ghost use Rattle.rows.specs.Standings.{used, standing};
 ghost use Rattle.notice.specs.Outcomes.{awaits, stays, in_range, is_accepted, awaiting, rows_without, outcome_answer, after_outcome};
 
 use crate::event::Event;
 use mcptt::Refusal;
 use rows::{Account, Entry, Row};
-use table::{Test, retain};
 
 impl Event {
     /// Whether its SIP code, if it has one, is 300 to 699.
     fn is_in_range(self) -> bool
         ensures { result ≡ in_range self }
     {
-        match self {
-            Event::Accepted | Event::TimerExpired => true,
-            Event::Rejected(code) => 300 <= code && code <= 699,
-        }
+        matches!(
+            self,
+            Event::Accepted | Event::TimerExpired | Event::Rejected(300..=699)
+        )
     }
 
     /// Whether the request was accepted.
     fn is_accepted(self) -> bool
         ensures { result ≡ is_accepted self }
     {
-        match self {
-            Event::Accepted => true,
-            Event::Rejected(_) | Event::TimerExpired => false,
-        }
+        matches!(self, Event::Accepted)
     }
 }
 
-/// Passes every entry but the affiliating ones with the serial.
-#[derive(Clone, Copy)]
-struct Stays {
-    serial: u32,
-}
-
-impl Test<Entry> for Stays {
-    ghost holds = { λ t e. stays t.serial e };
-
-    fn passes(&self, one: &Entry) -> bool {
-        !(one.status.is_affiliating() && one.serial == self.serial)
-    }
-}
-
-/// Removes the affiliating entries with the serial from the first `count`, closes up, and says how
-/// many are left.
-fn strike(entries: &mut [Entry], count: usize, serial: u32) -> usize
-    requires { count ≤ length entries.old }
-    ensures few { result ≤ count }
-    ensures left { result ≡ count_by (stays serial) (take count entries.old) }
-    ensures used { take result entries.new ≡ filter (stays serial) (take count entries.old) }
+/// Whether an entry is no affiliating one with the serial.
+fn stays(entry: &Entry, serial: u32) -> bool
+    ensures { result ≡ stays serial entry.now }
 {
-    retain(entries, count, &Stays { serial })
+    !(entry.status.is_affiliating() && entry.serial == serial)
 }
 
 /// Removes the affiliating entries with the serial from a row, and says how many they were.
@@ -61,10 +39,9 @@ fn strike_row(row: &mut Row, serial: u32) -> usize
     ensures removed { result ≡ count_by (awaits serial) (used row.old) }
     ensures used { used row.new ≡ filter (stays serial) (used row.old) }
 {
-    let before = row.count;
-    let left = strike(&mut row.entries, before, serial);
-    row.count = left;
-    before - left
+    let before = row.entries.len();
+    row.entries.retain(|entry| stays(entry, serial));
+    before - row.entries.len()
 }
 
 /// Removes the affiliating entries with the serial from the rows of the four radios, and says how
@@ -83,6 +60,7 @@ fn strike_rows(rows: &mut [Row], serial: u32) -> usize
 
 /// OUTCOME: unless the request was accepted, removes the user's affiliating entries with its serial;
 /// the answer is how many.
+#[tactic(auto, unfolding(crate::specs::Outcomes::outcome_answer, crate::specs::Outcomes::after_outcome))]
 pub fn outcome(account: &mut Account, serial: u32, event: Event) -> Result<usize, Refusal>
     ensures answer { result ≡ outcome_answer (standing account.old) serial event }
     ensures standing { standing account.new ≡ after_outcome (standing account.old) serial event }
@@ -91,9 +69,7 @@ pub fn outcome(account: &mut Account, serial: u32, event: Event) -> Result<usize
     if !event.is_in_range() {
         return Err(Refusal::NumberOutOfRange);
     }
-    if !account.enrolled {
-        return Err(Refusal::NotEnrolled);
-    }
+    account.enrolled()?;
     if event.is_accepted() {
         return Ok(0);
     }

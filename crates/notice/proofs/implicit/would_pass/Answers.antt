@@ -1,4 +1,5 @@
-use Rattle.std.proofs.Common.{true, false, not, refl, ap, ◌∙◌}
+use Rattle.std.proofs.Common.{true, false, not, count_by, refl, ap, ◌∙◌}
+use Rattle.rows.specs.Entries.{live}
 use Rattle.notice.proofs.Beginning.{too_long}
 use Rattle.notice.proofs.implicit.would_pass.Goals as goal
 
@@ -6,7 +7,7 @@ pub returns-then-not-lives : goal.returns-then-not-lives
 returns-then-not-lives c =
     λ serial.
     too_long c.args.time.seconds c.args.group.number serial c.args.row.now false c.count_live.result
-    c.if-not-lives.ensures c.count_live.ensures
+    c.if-not-lives.ensures (c.count_live.ensures ∙ ap (count_by (live c.args.time.seconds)) c.as_slice.ensures.used)
 
 pub returns-else-not-lives : goal.returns-else-not-lives
 returns-else-not-lives c =
