@@ -1,5 +1,5 @@
 -- NOTIFY, OUTCOME and STATUS of a user: the answers, and the standings after.
-use Rattle.std.specs.Prelude.{ℕ, Bool, List, Option, Result}
+use Rattle.std.specs.Prelude.{ℕ, Bool, List, Result}
 use Rattle.mcptt.specs.declared.refusal.Refusal.{Refusal}
 use Rattle.rows.specs.Standings.{Standing}
 use Rattle.notice.specs.declared.event.Event.{Event}
@@ -9,10 +9,7 @@ use Rattle.serving.specs.declared.state.Serving.{Serving}
 use Rattle.serving.specs.States.{standings, standing_of}
 use Rattle.serving.specs.Calls.{user_refusal, answer_unless, after_unless, with_standing}
 
--- an owner's word: the group, the radios listed, an interval, and a serial or none
-abbrev pub notify_of : ℕ → ℕ → ℕ → Option ℕ → Notify
-notify_of group radios interval serial = record { group = group; radios = radios; interval = interval; serial = serial }
-
+-- NOTIFY
 abbrev pub serving_notify : Serving → ℕ → Notify → Result ℕ Refusal
 serving_notify s user word = answer_unless (user_refusal user) (notify_answer s.time.seconds (standing_of s user) word)
 

@@ -21,9 +21,7 @@ abbrev pub pending_of : ℕ → ℕ → ℕ → ℕ → Pending
 pending_of user radio group serial =
     record {
       user = record { number = user };
-      radio = record { number = radio };
-      group = record { number = group };
-      serial = serial;
+      begun = record { radio = record { number = radio }; group = record { number = group }; serial = serial };
       settled = false;
     }
 

@@ -1,5 +1,5 @@
 -- How the users of the serving half stand.
-use Rattle.std.specs.Prelude.{◌≡◌, ℕ, ◌-◌, Bool, List, map, slice_index_or, slice_set}
+use Rattle.std.specs.Prelude.{◌≡◌, ℕ, ◌-◌, Bool, List, is_some, map, slice_index_or, slice_set}
 use Rattle.rows.specs.declared.account.Account.{Account}
 use Rattle.rows.specs.Standings.{Standing, standing, unused, no_account}
 use Rattle.serving.specs.declared.state.Serving.{Serving}
@@ -16,7 +16,7 @@ abbrev pub account_of : Serving → ℕ → Account
 account_of s user = slice_index_or s.accounts (user - 1) no_account
 
 abbrev pub has_enrolled : Account → Bool
-has_enrolled a = a.enrolled
+has_enrolled a = is_some a.enrolment
 
 -- from a to b all is, as a value, what it was, but for the account of this user
 pub record OthersSame (user : ℕ) (a b : Serving) : Type 0 where

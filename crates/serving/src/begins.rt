@@ -6,7 +6,9 @@ ghost use Rattle.serving.specs.Pendings.{serving_begin, standings_after_begin, h
 use crate::pending::Pending;
 use crate::state::Serving;
 use mcptt::{ClientId, GroupId, McpttId, Refusal, ServedUser};
+use notice::Begun;
 
+#[tactic(auto, using(crate::proofs::Accounts::accounts))]
 impl Serving {
     /// BEGIN where the serial is all that is wanted, as in a list of calls that names it later.
     ///
@@ -25,12 +27,7 @@ impl Serving {
     {
         let served = ServedUser::try_from(user)?;
         let time = self.time;
-        notice::begin(
-            &mut self.accounts[served.number as usize - 1],
-            time,
-            radio,
-            group,
-        )
+        notice::begin(&mut self.accounts[served.index()], time, radio, group)
     }
 
     /// BEGIN: affiliates a radio implicitly, and hands out the pending affiliation, which must be spent.
@@ -49,6 +46,13 @@ impl Serving {
         ensures others { OthersSame user.number self.old self.new }
     {
         let serial = self.begin_of(user, radio, group)?;
-        Ok(Pending::new(user, radio, group, serial))
+        Ok(Pending::new(
+            user,
+            Begun {
+                radio,
+                group,
+                serial,
+            },
+        ))
     }
 }

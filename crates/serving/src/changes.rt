@@ -5,14 +5,27 @@ ghost use Rattle.serving.specs.States.{standings, OthersSame};
 ghost use Rattle.serving.specs.Calls.{serving_change, standings_after_change, outgoing_after_change, serving_leave, standings_after_leave, outgoing_after_leave};
 
 use crate::state::Serving;
-use mcptt::{ClientId, GroupId, McpttId, Refusal, ServedUser};
+use change::{Clock, Wish};
+use mcptt::{ClientId, McpttId, Refusal, ServedUser};
 use preference::Preference;
 use rows::Request;
 
 /// A call that sends may fill so many places of the outgoing list.
 const PLACES: usize = 24;
 
+#[tactic(auto, using(crate::proofs::Accounts::accounts))]
 impl Serving {
+    /// The time, with timer F.
+    fn clock(&self) -> Clock
+        ensures time { result.time ≡ self.now.time }
+        ensures timer { result.timer ≡ self.now.settings.timer }
+    {
+        Clock {
+            time: self.time,
+            timer: self.settings.timer,
+        }
+    }
+
     /// CHANGE: changes what a radio wants, and answers how many requests were sent and how many wanted
     /// groups were turned down.
     ///
@@ -22,14 +35,12 @@ impl Serving {
         &mut self,
         preference: &P,
         user: McpttId,
-        radio: ClientId,
-        interval: u32,
-        wanted: &[GroupId],
+        wish: Wish<'_>,
         out: &mut [Request],
     ) -> Result<(usize, usize), Refusal>
-        ensures answer { result ≡ serving_change self.old (P.Preference.before preference.now) (change_of user.number radio.number interval wanted.now (length out.old)) }
-        ensures standings { standings self.new ≡ standings_after_change self.old (P.Preference.before preference.now) (change_of user.number radio.number interval wanted.now (length out.old)) }
-        ensures out { out.new ≡ outgoing_after_change self.old (P.Preference.before preference.now) (change_of user.number radio.number interval wanted.now (length out.old)) out.old }
+        ensures answer { result ≡ serving_change self.old (P.Preference.before preference.now) (change_of user.number wish.entry.radio.number wish.entry.interval wish.entry.wanted.now (length out.old)) }
+        ensures standings { standings self.new ≡ standings_after_change self.old (P.Preference.before preference.now) (change_of user.number wish.entry.radio.number wish.entry.interval wish.entry.wanted.now (length out.old)) }
+        ensures out { out.new ≡ outgoing_after_change self.old (P.Preference.before preference.now) (change_of user.number wish.entry.radio.number wish.entry.interval wish.entry.wanted.now (length out.old)) out.old }
         ensures refused { is_ok result ≡ false → self.new ≡ self.old }
         ensures others { OthersSame user.number self.old self.new }
     {
@@ -37,17 +48,13 @@ impl Serving {
             return Err(Refusal::OutgoingTooShort);
         }
         let served = ServedUser::try_from(user)?;
-        let time = self.time;
-        let timer = self.settings.timer;
+        let clock = self.clock();
         change::change(
-            &mut self.accounts[served.number as usize - 1],
+            &mut self.accounts[served.index()],
             preference,
             served,
-            radio,
-            time,
-            timer,
-            interval,
-            wanted,
+            clock,
+            wish,
             out,
         )
     }
@@ -72,14 +79,12 @@ impl Serving {
             return Err(Refusal::OutgoingTooShort);
         }
         let served = ServedUser::try_from(user)?;
-        let time = self.time;
-        let timer = self.settings.timer;
+        let clock = self.clock();
         change::leave(
-            &mut self.accounts[served.number as usize - 1],
+            &mut self.accounts[served.index()],
             served,
             radio,
-            time,
-            timer,
+            clock,
             out,
         )
     }

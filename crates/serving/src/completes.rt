@@ -6,47 +6,34 @@ ghost use Rattle.serving.specs.Pendings.{serving_complete, standings_after_compl
 
 use crate::pending::Pending;
 use crate::state::Serving;
-use mcptt::{ClientId, GroupId, McpttId, Refusal, ServedUser};
+use mcptt::{McpttId, Refusal, ServedUser};
+use notice::Begun;
 
+#[tactic(auto, using(crate::proofs::Accounts::accounts))]
 impl Serving {
     /// COMPLETE of any user, radio, group and serial: makes that pending affiliation an affiliation, if it
     /// is live; the answer is whether there was one.
     ///
     /// Refuses with 5 a user, radio or group out of range.
-    pub fn complete_of(
-        &mut self,
-        user: McpttId,
-        radio: ClientId,
-        group: GroupId,
-        serial: u32,
-    ) -> Result<bool, Refusal>
-        ensures answer { result ≡ serving_complete self.old user.number radio.number group.number serial }
-        ensures standings { standings self.new ≡ standings_after_complete self.old user.number radio.number group.number serial }
+    pub fn complete_of(&mut self, user: McpttId, begun: Begun) -> Result<bool, Refusal>
+        ensures answer { result ≡ serving_complete self.old user.number begun.radio.number begun.group.number begun.serial }
+        ensures standings { standings self.new ≡ standings_after_complete self.old user.number begun.radio.number begun.group.number begun.serial }
         ensures stays { is_yes result ≡ false → self.new ≡ self.old }
         ensures others { OthersSame user.number self.old self.new }
     {
         let served = ServedUser::try_from(user)?;
         let time = self.time;
-        notice::complete(
-            &mut self.accounts[served.number as usize - 1],
-            time,
-            radio,
-            group,
-            serial,
-        )
+        notice::complete(&mut self.accounts[served.index()], time, begun)
     }
 
     /// COMPLETE: spends the pending affiliation after a 2xx answer; no where its entry is gone or not live.
     pub fn complete(&mut self, pending: Pending) -> bool
-        ensures answer { result ≡ is_yes (serving_complete self.old pending.user.number pending.radio.number pending.group.number pending.serial) }
-        ensures standings { standings self.new ≡ standings_after_complete self.old pending.user.number pending.radio.number pending.group.number pending.serial }
+        ensures answer { result ≡ is_yes (serving_complete self.old pending.user.number pending.begun.radio.number pending.begun.group.number pending.begun.serial) }
+        ensures standings { standings self.new ≡ standings_after_complete self.old pending.user.number pending.begun.radio.number pending.begun.group.number pending.begun.serial }
         ensures stays { result ≡ false → self.new ≡ self.old }
         ensures others { OthersSame pending.user.number self.old self.new }
     {
-        let (user, radio, group, serial) = pending.spent();
-        match self.complete_of(user, radio, group, serial) {
-            Ok(done) => done,
-            Err(_) => false,
-        }
+        let (user, begun) = pending.spent();
+        self.complete_of(user, begun).unwrap_or(false)
     }
 }

@@ -7,17 +7,19 @@ ghost use Rattle.serving.specs.Enrolments.{enrolled_with, enrol_refusal, after_e
 
 use crate::state::Serving;
 use mcptt::{McpttId, Refusal, ServedUser, Settings};
-use rows::{Account, Time};
+use rows::{Account, Enrolment, Time};
 
 /// Gives an account the limit and the next serial.
 fn enrol(account: &mut Account, limit: u32, first_serial: u32)
     ensures { standing account.new ≡ enrolled_with (standing account.old) limit first_serial }
 {
-    account.enrolled = true;
-    account.limit = limit;
-    account.next_serial = first_serial;
+    account.enrolment = Some(Enrolment {
+        limit,
+        next_serial: first_serial,
+    });
 }
 
+#[tactic(auto, using(crate::proofs::Accounts::accounts))]
 impl Serving {
     /// The serving half of an unused gateway: the time is 0, and nobody is enrolled.
     pub fn new(settings: Settings) -> Serving
@@ -43,8 +45,8 @@ impl Serving {
         ensures others { OthersSame user.number self.old self.new }
     {
         let served = ServedUser::try_from(user)?;
-        let place = served.number as usize - 1;
-        if self.accounts[place].enrolled {
+        let place = served.index();
+        if self.accounts[place].enrolment.is_some() {
             return Err(Refusal::AlreadyEnrolled);
         }
         if limit == 0 || limit > 16 || first_serial == 0 {

@@ -2,16 +2,16 @@
 ghost use Rattle.std.specs.Prelude.{◌≡◌, true};
 ghost use Rattle.serving.specs.Pendings.{pending_of};
 
-use mcptt::{ClientId, GroupId, McpttId};
+use mcptt::McpttId;
+use notice::Begun;
 
 /// An implicit affiliation that was begun. It stands outside the tables, and must be spent by COMPLETE
 /// or CANCEL: no way out of the host's code may forget it.
 pub struct Pending {
     user: McpttId,
-    radio: ClientId,
-    group: GroupId,
-    serial: u32,
-    /// Whether COMPLETE or CANCEL has spent it. BEGIN hands out none that is, and only `spent` marks one.
+    begun: Begun,
+    /// Whether COMPLETE or CANCEL has spent it: a flag, because what asks a proof of each way of letting a
+    /// token go is its `Drop`, and a contract that no call can meet is refused. BEGIN hands out none that is, and only `spent` marks one.
     settled: bool,
 }
 
@@ -22,39 +22,35 @@ impl Drop for Pending {
     {
         let Pending {
             user: _,
-            radio: _,
-            group: _,
-            serial: _,
+            begun: _,
             settled: _,
         } = self;
     }
 }
 
 impl Pending {
-    pub(crate) fn new(user: McpttId, radio: ClientId, group: GroupId, serial: u32) -> Pending
-        ensures { result ≡ pending_of user.number radio.number group.number serial }
+    pub(crate) fn new(user: McpttId, begun: Begun) -> Pending
+        ensures { result ≡ pending_of user.number begun.radio.number begun.group.number begun.serial }
     {
         Pending {
             user,
-            radio,
-            group,
-            serial,
+            begun,
             settled: false,
         }
     }
 
     /// The serial that BEGIN took.
     pub fn serial(&self) -> u32
-        ensures { result ≡ self.now.serial }
+        ensures { result ≡ self.now.begun.serial }
     {
-        self.serial
+        self.begun.serial
     }
 
     /// The only way that a token ends.
-    pub(crate) fn spent(mut self) -> (McpttId, ClientId, GroupId, u32)
-        ensures { (result.0 ≡ self.user) × (result.1 ≡ self.radio) × (result.2 ≡ self.group) × (result.3 ≡ self.serial) }
+    pub(crate) fn spent(mut self) -> (McpttId, Begun)
+        ensures { (result.0 ≡ self.user) × (result.1 ≡ self.begun) }
     {
         self.settled = true;
-        (self.user, self.radio, self.group, self.serial)
+        (self.user, self.begun)
     }
 }

@@ -1,8 +1,9 @@
 //! The serving calls by examples: each refusal of ENROL and TICK, the edges of their ranges, and one
 //! user's run.
 use crate::Serving;
+use change::Wish;
 use mcptt::{ClientId, GroupId, McpttId, Refusal, Settings};
-use notice::Event;
+use notice::{Begun, Event, Notice};
 use preference::{PriorityRow, PriorityTable};
 use rows::Request;
 use std::test::Fail;
@@ -19,10 +20,7 @@ fn group(number: u32) -> GroupId {
 
 /// 0 for a call that is done, or the number of its refusal.
 fn number(answer: Result<(), Refusal>) -> u8 {
-    match answer {
-        Ok(()) => 0,
-        Err(refusal) => refusal.number(),
-    }
+    answer.err().map_or(0, |refusal| refusal.number())
 }
 
 fn enrolled(serving: &mut Serving, user: u32, limit: u32, first_serial: u32) -> u8 {
@@ -63,19 +61,31 @@ fn refusals_of_tick(rt: HostRuntime) {
 /// Groups 10, 20 and 30 with priorities 1, 2 and 3.
 fn priorities() -> PriorityTable {
     let mut table = PriorityTable::empty();
-    table.rows[0] = PriorityRow {
-        group: group(30),
-        priority: 3,
-    };
-    table.rows[1] = PriorityRow {
-        group: group(10),
-        priority: 1,
-    };
-    table.rows[2] = PriorityRow {
-        group: group(20),
-        priority: 2,
-    };
+    for (row, (number, priority)) in table.rows.iter_mut().zip([(30, 3), (10, 1), (20, 2)]) {
+        *row = PriorityRow {
+            group: group(number),
+            priority,
+        };
+    }
     table
+}
+
+/// The wish of radio 1 for 600 seconds.
+fn wish(wanted: &[GroupId]) -> Wish<'_> {
+    Wish {
+        radio: ONE,
+        interval: 600,
+        wanted,
+    }
+}
+
+fn notice(number: u32, radios: u8, interval: u32, serial: u32) -> Notice {
+    Notice {
+        group: group(number),
+        radios,
+        interval,
+        serial: Some(serial),
+    }
 }
 
 fn blank() -> Request {
@@ -107,14 +117,14 @@ fn a_run_of_one_user(rt: HostRuntime) {
     assert!(rt; ticked(&mut serving, 1_000) == 0 && enrolled(&mut serving, 7, 2, 1) == 0);
     let wanted = [group(30), group(10), group(20)];
     assert!(rt;
-        serving.change(&order, USER, ONE, 600, &wanted, &mut out[..23])
+        serving.change(&order, USER, wish(&wanted), &mut out[..23])
             == Err(Refusal::OutgoingTooShort)
     );
-    assert!(rt; serving.change(&order, USER, ONE, 600, &wanted, &mut out) == Ok((2, 1)));
+    assert!(rt; serving.change(&order, USER, wish(&wanted), &mut out) == Ok((2, 1)));
     assert!(rt; out[0].group == group(10) && out[0].serial == 1 && out[1].serial == 2);
-    assert!(rt; serving.notify(USER, group(20), 1, 600, Some(1)) == Ok(0));
-    assert!(rt; serving.notify(USER, group(10), 1, 2_592_000, Some(1)) == Ok(1));
-    assert!(rt; serving.change(&order, USER, ONE, 600, &[group(20)], &mut out) == Ok((1, 0)));
+    assert!(rt; serving.notify(USER, notice(20, 1, 600, 1)) == Ok(0));
+    assert!(rt; serving.notify(USER, notice(10, 1, 2_592_000, 1)) == Ok(1));
+    assert!(rt; serving.change(&order, USER, wish(&[group(20)]), &mut out) == Ok((1, 0)));
     assert!(rt; out[0].serial == 3 && out[0].expires == 0 && out[1].serial == 2);
     assert!(rt; begun(&mut serving, TWO, group(50)) == 0);
     assert!(rt; begun(&mut serving, ONE, group(20)) == 13);
@@ -136,10 +146,14 @@ fn a_pending_affiliation_is_completed(rt: HostRuntime) -> Result<(), Fail> {
     let other = begun(&mut serving, ONE, group(60));
     let done = serving.complete(pending);
     assert!(rt; serial == 4 && other == 14 && done);
-    assert!(rt; serving.cancel_of(USER, TWO, group(50), 4) == Ok(false));
+    let begun = Begun {
+        radio: TWO,
+        group: group(50),
+        serial: 4,
+    };
+    assert!(rt; serving.cancel_of(USER, begun) == Ok(false));
     assert!(rt;
-        serving.complete_of(McpttId { number: 65 }, TWO, group(50), 4)
-            == Err(Refusal::NumberOutOfRange)
+        serving.complete_of(McpttId { number: 65 }, begun) == Err(Refusal::NumberOutOfRange)
     );
     assert!(rt; serving.status(USER, TWO, group(50)) == Ok(true));
     Ok(())

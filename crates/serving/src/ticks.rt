@@ -21,7 +21,7 @@ impl Serving {
         if seconds < self.time.seconds {
             return Err(Refusal::TimeBackwards);
         }
-        self.time = Time::of(seconds)?;
+        self.time = Time::try_from(seconds)?;
         Ok(())
     }
 }
