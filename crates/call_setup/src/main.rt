@@ -2,7 +2,7 @@
 #![tactic(auto)]
 
 use mcptt::{ClientId, GroupId, McpttId, Refusal, Settings};
-use serving::{Pending, Serving};
+use serving::Serving;
 use std::io;
 
 /// A radio that calls a group, and the SIP answers that come back.
@@ -16,42 +16,27 @@ struct Attempt {
 
 /// The first final answer, none where all were provisional; refusal 5 for what is no SIP code.
 fn final_answer(answers: &[u16]) -> Result<Option<u16>, Refusal> {
-    for code in answers {
-        if *code < 100 || *code > 699 {
-            return Err(Refusal::NumberOutOfRange);
-        }
-        if *code >= 200 {
-            return Ok(Some(*code));
-        }
+    let first = answers
+        .iter()
+        .copied()
+        .find(|code| !matches!(code, 100..=199));
+    match first {
+        None | Some(200..=699) => Ok(first),
+        Some(_) => Err(Refusal::NumberOutOfRange),
     }
-    Ok(None)
-}
-
-/// Cancels the affiliation: the call came to nothing.
-fn given_up(serving: &mut Serving, pending: Pending) -> bool {
-    serving.cancel(pending);
-    false
-}
-
-/// Cancels the affiliation and hands the refusal on.
-fn abandoned(serving: &mut Serving, pending: Pending, refusal: Refusal) -> Refusal {
-    serving.cancel(pending);
-    refusal
 }
 
 /// Begins the affiliation and waits for a final answer: a 2xx completes it, any other cancels it, and
 /// so do silence and an answer that is none.
 fn set_up(serving: &mut Serving, attempt: &Attempt) -> Result<bool, Refusal> {
     let pending = serving.begin(attempt.user, attempt.radio, attempt.group)?;
-    let code = match final_answer(&attempt.answers) {
-        Ok(Some(code)) => code,
-        Ok(None) => return Ok(given_up(serving, pending)),
-        Err(refusal) => return Err(abandoned(serving, pending, refusal)),
-    };
-    if code >= 300 {
-        return Ok(given_up(serving, pending));
+    match final_answer(&attempt.answers) {
+        Ok(Some(200..=299)) => Ok(serving.complete(pending)),
+        answer => {
+            serving.cancel(pending);
+            answer.map(|_| false)
+        }
     }
-    Ok(serving.complete(pending))
 }
 
 fn call_of(radio: u32, group: u32, answers: [u16; 3]) -> Attempt {
@@ -75,17 +60,14 @@ fn main(rt: HostRuntime) -> io::Result<()> {
         call_of(2, 50, [100, 7, 200]),
         call_of(5, 50, [200, 200, 200]),
     ];
-    for one in attempts.iter() {
-        let radio = one.radio.number;
-        let group = one.group.number;
-        match set_up(&mut serving, one) {
-            Ok(true) => println!(rt; "radio {radio} group {group}: affiliated")?,
-            Ok(false) => println!(rt; "radio {radio} group {group}: cancelled")?,
-            Err(refusal) => {
-                let number = refusal.number();
-                let words = refusal.words();
-                println!(rt; "radio {radio} group {group}: refused {number} {words}")?
-            }
+    for attempt in &attempts {
+        let radio = attempt.radio.number;
+        let group = attempt.group.number;
+        print!(rt; "radio {radio} group {group}: ")?;
+        match set_up(&mut serving, attempt) {
+            Ok(true) => println!(rt; "affiliated")?,
+            Ok(false) => println!(rt; "cancelled")?,
+            Err(refusal) => println!(rt; "refused {} {refusal}", refusal.number())?,
         }
     }
     Ok(())

@@ -1,4 +1,5 @@
-mod Steps
+mod Places
 mod Naming
 mod Lowering
+mod Sides
 mod Alike

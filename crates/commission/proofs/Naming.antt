@@ -1,62 +1,55 @@
--- What it means that no place of a roster names a user.
-use Rattle.std.proofs.Common.{◌≡◌, ℕ, suc, ◌<◌, Bool, true, false, ◌||◌, eqb, ◌⊎◌, List, [], ◌∷◌, length, is_some, Some, None, Option, sym, refl, ap, ◌∙◌, inl, inr, arith}
-use Rattle.std.specs.List.{slice_get}
-use Rattle.std.proofs.lemmas.Bool.{false≢true, eqb-true}
+-- What it means that the groups of a roster name a user.
+use Rattle.std.proofs.Common.{◌≡◌, ℕ, Bool, true, false, ◌||◌, eqb, ◌⊎◌, List, [], ◌∷◌, is_some, Some, None, Option, Decides, sym, refl, ap, ◌∙◌, inl, inr}
+use Rattle.std.specs.List.{list_any}
+use Rattle.std.proofs.lemmas.Bool.{false≢true, eqb-true, or_left, or_right}
 use Rattle.mcptt.specs.declared.identity.GroupId.{GroupId}
 use Rattle.sheet.specs.Contents.{Content}
 use Rattle.sheet.specs.Rules.{names}
 use Rattle.roster.specs.Meaning.{members_in, as_groups, among}
 use Rattle.commission.specs.Users.{Named}
-use Rattle.commission.specs.Search.{named_at}
 
--- who is named at a place is named
-pub found_named : (held : ℕ → Option Content) (carried : List ℕ) (place user : ℕ) → named_at held carried place user ≡ true → Named held user
-found_named held carried place user h = go (slice_get (as_groups carried) place) h
-  where
-    go : (o : Option GroupId) → (elim o [ Some group ↦ names user (members_in (held group.number)) | None ↦ false ]) ≡ true → Named held user
-    go (Some group) e = (group.number, e)
-    go None e = absurd (false≢true e)
+-- some of these groups has a document that names the user
+abbrev pub named_in : (ℕ → Option Content) → List ℕ → ℕ → Bool
+named_in held carried user = list_any (λ (group : GroupId). names user (members_in (held group.number))) (as_groups carried)
 
 -- only a document names users
 some_document : (user : ℕ) (o : Option Content) → names user (members_in o) ≡ true → is_some o ≡ true
 some_document user (Some c) h = refl
 some_document user None h = absurd (false≢true h)
 
--- a group that names a user is carried
-pub naming_carried : (held : ℕ → Option Content) (carried : List ℕ) (group user : ℕ) → is_some (held group) ≡ among group carried
-    → names user (members_in (held group)) ≡ true → among group carried ≡ true
-naming_carried held carried group user law h = sym law ∙ some_document user (held group) h
+name_first : (held : ℕ → Option Content) (g : ℕ) (gs : List ℕ) (user : ℕ) → (named_in held gs user ≡ true → Named held user)
+    → (b : Bool) → names user (members_in (held g)) ≡ b → (b || named_in held gs user) ≡ true → Named held user
+name_first held g gs user later true e h = (g, e)
+name_first held g gs user later false e h = later h
 
-here_or_later : (held : ℕ → Option Content) (x : ℕ) (xs : List ℕ) (user group : ℕ) → names user (members_in (held x)) ≡ false
-    → (among group xs ≡ true → names user (members_in (held group)) ≡ false)
-    → (b : Bool) → eqb x group ≡ b → (b || among group xs) ≡ true → names user (members_in (held group)) ≡ false
-here_or_later held x xs user group here later true e h = ap (λ g. names user (members_in (held g))) (sym (eqb-true x group e)) ∙ here
-here_or_later held x xs user group here later false e h = later h
+some_names : (held : ℕ → Option Content) (carried : List ℕ) (user : ℕ) → named_in held carried user ≡ true → Named held user
+some_names held [] user h = absurd (false≢true h)
+some_names held (g ∷ gs) user h = name_first held g gs user (some_names held gs user) (names user (members_in (held g))) refl h
 
--- where no place names the user, no group that is carried does
-pub nowhere : (held : ℕ → Option Content) (carried : List ℕ) (user : ℕ) → ((k : ℕ) → k < length carried → named_at held carried k user ≡ false)
-    → (group : ℕ) → among group carried ≡ true → names user (members_in (held group)) ≡ false
-nowhere held [] user none group h = absurd (false≢true h)
-nowhere held (x ∷ xs) user none group h =
-    here_or_later held x xs user group (none 0 (omega arith)) (nowhere held xs user (λ k lt. none (suc k) (omega arith)) group) (eqb x group) refl h
+among_first : (held : ℕ → Option Content) (g : ℕ) (gs : List ℕ) (user group : ℕ) → names user (members_in (held group)) ≡ true
+    → (among group gs ≡ true → named_in held gs user ≡ true) → (b : Bool) → eqb g group ≡ b → (b || among group gs) ≡ true → named_in held (g ∷ gs) user ≡ true
+among_first held g gs user group named later true e h =
+    or_left _ (named_in held gs user) (ap (λ k. names user (members_in (held k))) (eqb-true g group e) ∙ named)
+among_first held g gs user group named later false e h = or_right (names user (members_in (held g))) _ (later h)
 
-some_or_none : (held : ℕ → Option Content) (carried : List ℕ) (user : ℕ)
-    → Named held user ⊎ ((group : ℕ) → among group carried ≡ true → names user (members_in (held group)) ≡ false)
-some_or_none held [] user = inr (λ group h. absurd (false≢true h))
-some_or_none held (x ∷ xs) user = go (names user (members_in (held x))) refl (some_or_none held xs user)
-  where
-    go : (b : Bool) → names user (members_in (held x)) ≡ b
-        → Named held user ⊎ ((group : ℕ) → among group xs ≡ true → names user (members_in (held group)) ≡ false)
-        → Named held user ⊎ ((group : ℕ) → among group (x ∷ xs) ≡ true → names user (members_in (held group)) ≡ false)
-    go true e rest = inl (x, e)
-    go false e (inl named) = inl named
-    go false e (inr none) = inr (λ group h. here_or_later held x xs user group e (none group) (eqb x group) refl h)
+names_in : (held : ℕ → Option Content) (carried : List ℕ) (user group : ℕ) → names user (members_in (held group)) ≡ true → among group carried ≡ true
+    → named_in held carried user ≡ true
+names_in held [] user group named h = absurd (false≢true h)
+names_in held (g ∷ gs) user group named h = among_first held g gs user group named (names_in held gs user group named) (eqb g group) refl h
 
--- a user is named or not: what a roster carries can be gone through
+-- a roster names a user where one of the groups that it carries does
+pub named_decides : (held : ℕ → Option Content) (carried : List ℕ) (user : ℕ) → ((g : ℕ) → is_some (held g) ≡ among g carried)
+    → Decides (named_in held carried user) (Named held user)
+named_decides held carried user law = (
+  some_names held carried user,
+  (λ n. names_in held carried user n.0 n.1 (sym (law n.0) ∙ some_document user (held n.0) n.1)),
+)
+
+-- a user is named or not
 pub named_or_not : (held : ℕ → Option Content) (carried : List ℕ) (user : ℕ) → ((g : ℕ) → is_some (held g) ≡ among g carried)
     → Named held user ⊎ (Named held user → ⊥)
-named_or_not held carried user law = go (some_or_none held carried user)
+named_or_not held carried user law = go (named_in held carried user) refl
   where
-    go : Named held user ⊎ ((group : ℕ) → among group carried ≡ true → names user (members_in (held group)) ≡ false) → Named held user ⊎ (Named held user → ⊥)
-    go (inl named) = inl named
-    go (inr none) = inr (λ n. false≢true (sym (none n.0 (naming_carried held carried n.0 user (law n.0) n.1)) ∙ n.1))
+    go : (b : Bool) → named_in held carried user ≡ b → Named held user ⊎ (Named held user → ⊥)
+    go true e = inl ((named_decides held carried user law).0 e)
+    go false e = inr (λ n. false≢true (sym e ∙ (named_decides held carried user law).1 n))

@@ -1,2 +1,1 @@
 pub mod Users
-pub mod Search

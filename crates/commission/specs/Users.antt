@@ -1,5 +1,5 @@
 -- The users of a site, as its radio list and its group sheets name them.
-use Rattle.std.specs.Prelude.{◌≡◌, ℕ, ◌<◌, ◌≤◌, true, false, Some, None, Option}
+use Rattle.std.specs.Prelude.{◌≡◌, ℕ, ◌<◌, ◌≤◌, true, false, Some, None, Ok, Err, Option, Result}
 use Rattle.mcptt.specs.declared.identity.McpttId.{McpttId}
 use Rattle.sheet.specs.Contents.{Content}
 use Rattle.sheet.specs.Rules.{names}
@@ -9,8 +9,6 @@ use Rattle.serving.specs.Enrolments.{is_enrolled, enrolled_of}
 use Rattle.commission.specs.declared.difference.Side.{Side}
 use Rattle.commission.specs.declared.difference.Side.TheVariants.{RadioList, Sheets}
 use Rattle.commission.specs.declared.difference.Difference.{Difference}
-use Rattle.commission.specs.declared.difference.Comparison.{Comparison}
-use Rattle.commission.specs.declared.difference.Comparison.TheVariants.{Same, Differ}
 
 -- the document of some group names the user
 abbrev pub Named : (ℕ → Option Content) → ℕ → Type 0
@@ -38,7 +36,7 @@ LowestDifference s held after (Some d) =
     (after < d.user.number) × OnlyOn d.side s held d.user.number
     × ((user : ℕ) (side : Side) → after < user → user < d.user.number → OnlyOn side s held user → ⊥)
 
--- what the comparison answers
-abbrev pub Compares : Serving → (ℕ → Option Content) → Comparison → Type 0
-Compares s held (Same users) = SameUsers s held × (users ≡ enrolled_of s)
-Compares s held (Differ first) = (SameUsers s held → ⊥) × LowestDifference s held 0 (Some first)
+-- what the comparison answers: how many users are enrolled, where both sides name the same, else the lowest difference
+abbrev pub Compares : Serving → (ℕ → Option Content) → Result ℕ Difference → Type 0
+Compares s held (Ok users) = SameUsers s held × (users ≡ enrolled_of s)
+Compares s held (Err first) = (SameUsers s held → ⊥) × LowestDifference s held 0 (Some first)

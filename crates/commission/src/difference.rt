@@ -2,22 +2,15 @@
 use mcptt::McpttId;
 
 /// The one side that names a user.
-#[derive(Clone, Copy)]
+#[derive(Clone, Copy, Debug, PartialEq, Eq, PartialOrd, Ord)]
 pub enum Side {
     RadioList,
     Sheets,
 }
 
-/// A user whom one side names and the other does not.
-#[derive(Clone, Copy)]
+/// A user whom one side names and the other does not. Differences come by user.
+#[derive(Clone, Copy, Debug, PartialEq, Eq, PartialOrd, Ord)]
 pub struct Difference {
     pub user: McpttId,
     pub side: Side,
-}
-
-/// Whether both sides name the same users: how many these are, or the lowest difference.
-#[derive(Clone, Copy)]
-pub enum Comparison {
-    Same { users: usize },
-    Differ { first: Difference },
 }

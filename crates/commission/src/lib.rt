@@ -9,4 +9,4 @@ mod named;
 mod tests;
 
 pub use comparing::{compare, next_difference};
-pub use difference::{Comparison, Difference, Side};
+pub use difference::{Difference, Side};

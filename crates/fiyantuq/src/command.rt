@@ -2,7 +2,9 @@
 ghost use Rattle.std.specs.Prelude.{◌<◌, IfSome};
 
 use mcptt::McpttId;
-use std::alloc::{AllocError, AllocFailed, Global};
+use std::alloc::{AllocError, Global};
+use std::str::{Utf8Error, from_utf8};
+use thiserror::Error;
 
 /// What keeps the documents of a site.
 #[derive(Clone, Copy)]
@@ -26,32 +28,33 @@ pub enum Command {
     Commission,
 }
 
-/// Why a line is no command.
-#[derive(Drop)]
-pub enum Fault {
-    /// What is wrong with it, and what was expected.
-    Misread {
-        wrong: String,
+/// Why a line is not carried out: what is wrong with it, and what was expected.
+#[derive(Debug, Drop, Error)]
+pub enum Fault<'a> {
+    #[error("not UTF-8; expected text in UTF-8")]
+    NotUtf8(#[from] Utf8Error),
+    #[error("unknown command {0}; expected ROSTER, ENROL, DOCUMENT or COMMISSION")]
+    UnknownCommand(&'a str),
+    #[error("words after the command: {count}; expected {expected}")]
+    Miscounted {
+        count: usize,
         expected: &'static str,
     },
-    /// No memory was left to read it.
-    Memory,
+    #[error("no roster {0}; expected {expected}", expected = ROSTER)]
+    NoRoster(&'a str),
+    #[error("ROSTER after another command; expected ROSTER as the first command")]
+    LateRoster,
+    #[error("{0} is no number from 0 to 4294967295; expected {expected}", expected = ENROL)]
+    NoNumber(&'a str),
+    #[error("no hex digit at place {place} or the next; expected {expected}", expected = DOCUMENT)]
+    NoHexDigit {
+        place: usize,
+    },
+    #[error("an odd number of hex digits; expected {expected}", expected = DOCUMENT)]
+    OddDigits,
+    #[error("out of memory")]
+    Memory(#[from(alloc)] AllocError),
 }
-
-impl From<AllocError> for Fault {
-    fn from(_: AllocError) -> Fault {
-        Fault::Memory
-    }
-}
-
-impl<T: Drop> From<AllocFailed<T>> for Fault {
-    fn from(_: AllocFailed<T>) -> Fault {
-        Fault::Memory
-    }
-}
-
-/// What a line could have been.
-const COMMANDS: &str = "ROSTER, ENROL, DOCUMENT or COMMISSION";
 
 const ROSTER: &str = "ROSTER TABLE or ROSTER SHEETS";
 
@@ -62,125 +65,104 @@ const DOCUMENT: &str = "DOCUMENT hex, two hex digits for each byte of the sheet"
 const COMMISSION: &str = "COMMISSION alone";
 
 /// The command of a line, none where the line is empty or a comment, or why it cannot be read.
-pub fn read(heap: Global, line: &str) -> Result<Option<Command>, Fault> {
-    let said = match line.split_once('#') {
-        Some((before, _)) => before,
-        None => line,
-    };
+pub fn read(heap: Global, line: &[u8]) -> Result<Option<Command>, Fault<'_>> {
+    let text = from_utf8(line)?;
+    let said = text.split_once('#').map_or(text, |(before, _)| before);
     let words: Vec<&str> = said.split_whitespace().collect(heap)?;
     let Some((first, rest)) = words.as_slice().split_first() else {
         return Ok(None);
     };
     let command = match *first {
-        "ROSTER" => roster(heap, rest)?,
-        "ENROL" => enrol(heap, rest)?,
+        "ROSTER" => roster(rest)?,
+        "ENROL" => enrol(rest)?,
         "DOCUMENT" => document(heap, rest)?,
-        "COMMISSION" => commission(heap, rest)?,
-        other => {
-            let wrong = format!(in heap; "unknown command {other}")?;
-            return Err(Fault::Misread {
-                wrong,
-                expected: COMMANDS,
-            });
-        }
+        "COMMISSION" => commission(rest)?,
+        other => return Err(Fault::UnknownCommand(other)),
     };
     Ok(Some(command))
 }
 
-fn roster(heap: Global, words: &[&str]) -> Result<Command, Fault> {
+fn roster<'a>(words: &[&'a str]) -> Result<Command, Fault<'a>> {
     let [kind] = words else {
-        return Err(miscounted(heap, words.len(), ROSTER)?);
+        return Err(miscounted(words, ROSTER));
     };
-    match *kind {
-        "TABLE" => Ok(Command::Roster(Keeping::Table)),
-        "SHEETS" => Ok(Command::Roster(Keeping::Sheets)),
-        other => {
-            let wrong = format!(in heap; "no roster {other}")?;
-            Err(Fault::Misread {
-                wrong,
-                expected: ROSTER,
-            })
+    Ok(Command::Roster(Keeping::try_from(*kind)?))
+}
+
+impl<'a> TryFrom<&'a str> for Keeping {
+    type Error = Fault<'a>;
+
+    fn try_from(word: &'a str) -> Result<Keeping, Fault<'a>> {
+        match word {
+            "TABLE" => Ok(Keeping::Table),
+            "SHEETS" => Ok(Keeping::Sheets),
+            other => Err(Fault::NoRoster(other)),
         }
     }
 }
 
-fn enrol(heap: Global, words: &[&str]) -> Result<Command, Fault> {
+fn enrol<'a>(words: &[&'a str]) -> Result<Command, Fault<'a>> {
     let [user, limit, first_serial] = words else {
-        return Err(miscounted(heap, words.len(), ENROL)?);
+        return Err(miscounted(words, ENROL));
     };
     Ok(Command::Enrol {
         user: McpttId {
-            number: number(heap, user, ENROL)?,
+            number: number(*user)?,
         },
-        limit: number(heap, limit, ENROL)?,
-        first_serial: number(heap, first_serial, ENROL)?,
+        limit: number(*limit)?,
+        first_serial: number(*first_serial)?,
     })
 }
 
-fn document(heap: Global, words: &[&str]) -> Result<Command, Fault> {
+fn document<'a>(heap: Global, words: &[&'a str]) -> Result<Command, Fault<'a>> {
     let [hex] = words else {
-        return Err(miscounted(heap, words.len(), DOCUMENT)?);
+        return Err(miscounted(words, DOCUMENT));
     };
-    Ok(Command::Document(bytes(heap, hex)?))
+    Ok(Command::Document(bytes(heap, hex.as_bytes())?))
 }
 
-fn commission(heap: Global, words: &[&str]) -> Result<Command, Fault> {
-    if !words.is_empty() {
-        return Err(miscounted(heap, words.len(), COMMISSION)?);
+fn commission<'a>(words: &[&'a str]) -> Result<Command, Fault<'a>> {
+    if words.is_empty() {
+        Ok(Command::Commission)
+    } else {
+        Err(miscounted(words, COMMISSION))
     }
-    Ok(Command::Commission)
 }
 
-fn miscounted(heap: Global, count: usize, expected: &'static str) -> Result<Fault, AllocError> {
-    let wrong = format!(in heap; "words after the command: {count}")?;
-    Ok(Fault::Misread { wrong, expected })
+fn miscounted<'a>(words: &[&'a str], expected: &'static str) -> Fault<'a> {
+    Fault::Miscounted {
+        count: words.len(),
+        expected,
+    }
 }
 
 /// A decimal number of 32 bits.
-fn number(heap: Global, word: &str, expected: &'static str) -> Result<u32, Fault> {
-    if !word.starts_with('+')
-        && let Ok(number) = word.parse::<u32>()
-    {
-        return Ok(number);
-    }
-    let wrong = format!(in heap; "{word} is no number from 0 to 4294967295")?;
-    Err(Fault::Misread { wrong, expected })
+fn number(word: &str) -> Result<u32, Fault<'_>> {
+    word.parse()
+        .ok()
+        .filter(|_| !word.starts_with('+'))
+        .ok_or(Fault::NoNumber(word))
 }
 
-/// The bytes that a word of hex digits spells.
-fn bytes(heap: Global, word: &str) -> Result<Vec<u8>, Fault> {
-    let digits = word.as_bytes();
+/// The bytes that hex digits spell.
+fn bytes<'a>(heap: Global, digits: &[u8]) -> Result<Vec<u8>, Fault<'a>> {
+    let (pairs, odd) = digits.as_chunks::<2>();
     let mut bytes = Vec::new(heap);
-    for i in 0..digits.len() / 2 {
-        match (hex_digit(digits[2 * i]), hex_digit(digits[2 * i + 1])) {
-            (Some(high), Some(low)) => bytes.push(16 * high + low)?,
-            _ => {
-                let place = 2 * i + 1;
-                let wrong = format!(in heap; "no hex digit at place {place} or the next")?;
-                return Err(Fault::Misread {
-                    wrong,
-                    expected: DOCUMENT,
-                });
-            }
-        }
+    for (i, [high, low]) in pairs.iter().enumerate() {
+        let (Some(high), Some(low)) = (hex_digit(*high), hex_digit(*low)) else {
+            return Err(Fault::NoHexDigit { place: 2 * i + 1 });
+        };
+        bytes.push(16 * high + low)?;
     }
-    if digits.len() % 2 == 1 {
-        let wrong = format!(in heap; "an odd number of hex digits")?;
-        return Err(Fault::Misread {
-            wrong,
-            expected: DOCUMENT,
-        });
+    if odd.is_empty() {
+        Ok(bytes)
+    } else {
+        Err(Fault::OddDigits)
     }
-    Ok(bytes)
 }
 
 fn hex_digit(digit: u8) -> Option<u8>
     ensures { IfSome result (λ d. d < 16) }
 {
-    match digit {
-        b'0'..=b'9' => Some(digit - b'0'),
-        b'a'..=b'f' => Some(digit - b'a' + 10),
-        b'A'..=b'F' => Some(digit - b'A' + 10),
-        _ => None,
-    }
+    char::from(digit).to_digit(16).map(|value| value as u8)
 }

@@ -21,42 +21,31 @@ One command a line, # starts a comment, numbers are decimal:
 
 /// The bytes of a file, or why it cannot be read.
 fn script(rt: &HostRuntime, file: &str) -> anyhow::Result<Vec<u8>> {
-    match fs::read(rt, file) {
-        Ok(bytes) => Ok(bytes),
-        Err(error) => Err(anyhow!(format!(in rt.alloc(); "cannot read {file}: {error}")?)),
-    }
+    fs::read(rt, file).map_err(|error| anyhow!("cannot read {file}: {error}"))
 }
 
 /// Has the console take the lines of a script one by one.
 fn carry_out(rt: &HostRuntime, console: &mut Console, script: &[u8]) -> anyhow::Result<()> {
-    let mut start = 0;
-    for i in 0..script.len() {
-        if script[i] == b'\n' {
-            console.take(rt, &script[start..i])?;
-            start = i + 1;
-        }
-    }
-    if start < script.len() {
-        console.take(rt, &script[start..])?;
+    for line in script.split_inclusive(|byte| *byte == b'\n') {
+        console.take(rt, line.strip_suffix(b"\n").unwrap_or(line))?;
     }
     Ok(())
 }
 
 fn run(rt: &HostRuntime) -> anyhow::Result<()> {
     let mut console = Console::new();
-    let mut named = false;
-    for file in env::args(rt)?.skip(1) {
-        if file.as_str() == "--help" || file.as_str() == "-h" {
+    let mut files = env::args(rt)?.skip(1).peekable();
+    if files.peek().is_none() {
+        let mut script = Vec::new(rt.alloc());
+        rt.stdin().read_to_end(&mut script)?;
+        carry_out(rt, &mut console, script.as_slice())?;
+    }
+    for file in files {
+        if matches!(file.as_str(), "--help" | "-h") {
             rt.print(HELP)?;
             return Ok(());
         }
-        named = true;
         let script = script(rt, file.as_str())?;
-        carry_out(rt, &mut console, script.as_slice())?;
-    }
-    if !named {
-        let mut script = Vec::new(rt.alloc());
-        rt.stdin().read_to_end(&mut script)?;
         carry_out(rt, &mut console, script.as_slice())?;
     }
     console.close(rt)?;

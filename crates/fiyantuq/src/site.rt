@@ -2,68 +2,68 @@
 ghost use Rattle.std.specs.Prelude.{◌<◌, IfSome};
 
 use crate::command::{Command, Keeping};
-use commission::{Comparison, Difference, compare, next_difference};
+use commission::{Difference, compare, next_difference};
 use mcptt::{GroupId, Refusal, Settings};
-use roster::{Catalogue, DocumentTable, Roster, SheetStore, place_sheet};
+use roster::{DocumentTable, Roster, SheetStore, place_sheet};
 use serving::Serving;
 
-/// The radio list and the documents. Of the two rosters the one that was chosen is used, and the
-/// other stays empty.
+/// The radio list and the documents.
 #[derive(Drop)]
 pub struct Site {
     serving: Serving,
-    keeping: Keeping,
-    table: DocumentTable,
-    store: SheetStore,
+    keeper: Keeper,
 }
 
-/// What a command is answered.
-pub enum Answer {
-    Done,
-    Compared(Comparison),
+/// The roster that was chosen, with the documents.
+#[derive(Drop)]
+enum Keeper {
+    Table(DocumentTable),
+    Sheets(SheetStore),
 }
 
 impl Site {
     pub fn new(keeping: Keeping) -> Site {
         Site {
             serving: Serving::new(Settings::usual()),
-            keeping,
-            table: <DocumentTable as Roster>::empty(),
-            store: <SheetStore as Roster>::empty(),
+            keeper: match keeping {
+                Keeping::Table => Keeper::Table(DocumentTable::empty()),
+                Keeping::Sheets => Keeper::Sheets(SheetStore::empty()),
+            },
         }
     }
 
-    /// Carries out a command of a script that has begun.
-    pub fn obey(&mut self, command: &Command) -> Result<Answer, Refusal> {
+    /// Carries out a command of a script that has begun. A comparison answers how many users both
+    /// sides name, or the lowest difference.
+    pub fn obey(
+        &mut self,
+        command: &Command,
+    ) -> Result<Option<Result<usize, Difference>>, Refusal> {
         match command {
-            Command::Roster(_) => Ok(Answer::Done),
+            Command::Roster(_) => {}
             Command::Enrol {
                 user,
                 limit,
                 first_serial,
-            } => {
-                self.serving.enrol(*user, *limit, *first_serial)?;
-                Ok(Answer::Done)
-            }
+            } => self.serving.enrol(*user, *limit, *first_serial)?,
             Command::Document(bytes) => {
                 self.place(bytes.as_slice())?;
-                Ok(Answer::Done)
             }
-            Command::Commission => Ok(Answer::Compared(self.compared())),
+            Command::Commission => return Ok(Some(self.compared())),
         }
+        Ok(None)
     }
 
     fn place(&mut self, bytes: &[u8]) -> Result<GroupId, Refusal> {
-        match self.keeping {
-            Keeping::Table => place_sheet(&mut self.table, bytes),
-            Keeping::Sheets => place_sheet(&mut self.store, bytes),
+        match &mut self.keeper {
+            Keeper::Table(table) => place_sheet(table, bytes),
+            Keeper::Sheets(store) => place_sheet(store, bytes),
         }
     }
 
-    fn compared(&self) -> Comparison {
-        match self.keeping {
-            Keeping::Table => compare(&self.serving, &self.table),
-            Keeping::Sheets => compare(&self.serving, &self.store),
+    fn compared(&self) -> Result<usize, Difference> {
+        match &self.keeper {
+            Keeper::Table(table) => compare(&self.serving, table),
+            Keeper::Sheets(store) => compare(&self.serving, store),
         }
     }
 
@@ -71,9 +71,9 @@ impl Site {
     pub fn difference_after(&self, number: u32) -> Option<Difference>
         ensures { IfSome result (λ d. number < d.user.number) }
     {
-        match self.keeping {
-            Keeping::Table => next_difference(&self.serving, &self.table, number),
-            Keeping::Sheets => next_difference(&self.serving, &self.store, number),
+        match &self.keeper {
+            Keeper::Table(table) => next_difference(&self.serving, table, number),
+            Keeper::Sheets(store) => next_difference(&self.serving, store, number),
         }
     }
 }
