@@ -12,6 +12,7 @@ use rows::{Account, Request};
 
 /// Changes what a radio wants, and answers how many requests were sent and how many wanted groups
 /// were turned down.
+#[tactic(auto, unfolding(crate::specs::Changes::change_answer, crate::specs::Changes::after_change, crate::specs::Changes::out_after_change))]
 pub fn change<P: Preference>(
     account: &mut Account,
     preference: &P,
@@ -32,6 +33,7 @@ pub fn change<P: Preference>(
 }
 
 /// Gives up all that a radio has, and answers how many requests were sent.
+#[tactic(auto, unfolding(crate::specs::Changes::leave_answer, crate::specs::Changes::after_leave, crate::specs::Changes::out_after_leave))]
 pub fn leave(
     account: &mut Account,
     user: ServedUser,

@@ -15,6 +15,7 @@ pub struct Site {
 }
 
 /// The roster that was chosen, with the documents.
+// each method asks which: no trait object, since a roster can be made empty by its type alone
 #[derive(Drop)]
 enum Keeper {
     Table(DocumentTable),
