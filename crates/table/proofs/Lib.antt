@@ -1,3 +1,1 @@
-pub mod Firsts
-pub mod Parts
-mod Sifting
+mod Calls

@@ -1,16 +1,16 @@
-//! One table for every record that has a key and an end time.
+//! One table for every record that has a key and an end time, and places to keep its records in.
 #![tactic(auto)]
 
-mod checks;
-mod keys;
 mod lent;
 mod methods;
+mod owned;
+mod places;
 mod records;
-mod slots;
+mod searches;
 #[cfg(test)]
 mod tests;
 
-pub use checks::{LiveOf, OtherThan, is_live};
 pub use lent::Table;
-pub use records::{Full, Key, Record, Test};
-pub use slots::{count_live, find, position, retain};
+pub use owned::Slots;
+pub use records::{Full, Record};
+pub use searches::{count_live, find, is_live};

@@ -1,12 +1,11 @@
 //! What a table does.
-ghost use Rattle.std.specs.Prelude.{◌≡◌, ◌+◌, ◌<◌, ◌≤◌, not, [], ◌∷◌, ◌++◌, length, drop, IfSome, is_ok, if◌then◌else◌, count_by, filter, nat_lt, slice_index_or, slice_set};
+ghost use Rattle.std.specs.Prelude.{◌≡◌, Bool, ◌+◌, ◌<◌, ◌≤◌, not, [], ◌∷◌, ◌++◌, length, drop, IfSome, is_ok, if◌then◌else◌, count_by, filter, nat_lt, slice_index_or, slice_set};
 ghost use Rattle.table.specs.Tables.{first_place, live, live_of, of_key};
-ghost use Rattle.table.specs.Views.{used, behind, has_room, SameLender};
+ghost use Rattle.table.specs.Views.{used, behind, has_room, SameLender, Answers};
 
-use crate::checks::OtherThan;
 use crate::lent::Table;
-use crate::records::{Full, Key, Record, Test};
-use crate::slots;
+use crate::records::{Full, Record};
+use crate::searches::{count_live, find};
 
 impl<'a, T: Copy> Table<'a, T> {
     /// The table over slots of which the first `count` are used.
@@ -18,6 +17,13 @@ impl<'a, T: Copy> Table<'a, T> {
         ensures count_lender { result.count.ghost_name ≡ count.entry.ghost_name }
     {
         Table { slots, count }
+    }
+
+    /// The records, in order.
+    pub fn records(&self) -> &[T]
+        ensures { result.now ≡ used self.now }
+    {
+        &self.slots[..*self.count]
     }
 
     /// Adds a record behind the others, or refuses where every slot is used.
@@ -32,7 +38,7 @@ impl<'a, T: Copy> Table<'a, T> {
         if free == self.slots.len() {
             return Err(Full);
         }
-        self.put(free, new);
+        self.slots[free] = new;
         *self.count = free + 1;
         Ok(())
     }
@@ -42,7 +48,7 @@ impl<'a, T: Copy> Table<'a, T> {
         requires { i < self.now.count.now }
         ensures { result ≡ slice_index_or self.now.slots.now i result }
     {
-        slots::read(self.slots, i)
+        self.records()[i]
     }
 
     /// Puts a record in the place of another.
@@ -53,32 +59,24 @@ impl<'a, T: Copy> Table<'a, T> {
         ensures used { used self.new ≡ slice_set (used self.old) i new }
         ensures lender { SameLender self.old self.new }
     {
-        self.put(i, new);
-    }
-
-    fn put(&mut self, i: usize, new: T)
-        requires { i < length self.old.slots.now }
-        ensures count { self.new.count.now ≡ self.old.count.now }
-        ensures slots { self.new.slots.now ≡ slice_set self.old.slots.now i new }
-        ensures lender { SameLender self.old self.new }
-    {
         self.slots[i] = new;
     }
 
     /// Keeps the records that pass, in their order, and closes up.
-    pub fn retain<P: Test<T>>(&mut self, test: &P)
-        ensures count { self.new.count.now ≡ count_by (P.Test.holds test.now) (used self.old) }
-        ensures used { used self.new ≡ filter (P.Test.holds test.now) (used self.old) }
+    pub fn retain<F: Fn(&T) -> bool>(&mut self, test: F)
+        requires { F.IsAlwaysCallable test }
+        ensures count { (p : T → Bool) → Answers F.Fn p test → self.new.count.now ≡ count_by p (used self.old) }
+        ensures used { (p : T → Bool) → Answers F.Fn p test → used self.new ≡ filter p (used self.old) }
         ensures fewer { self.new.count.now ≤ self.old.count.now }
         ensures long { length self.new.slots.now ≡ length self.old.slots.now }
         ensures behind { behind self.new ≡ drop self.new.count.now self.old.slots.now }
         ensures lender { SameLender self.old self.new }
     {
-        let count = *self.count;
         let mut kept_so_far = 0;
-        for i in 0..count {
+        // By index: the place that is read runs ahead of the place that is written.
+        for i in 0..*self.count {
             let one = self.slots[i];
-            if test.passes(&one) {
+            if test(&one) {
                 self.slots[kept_so_far] = one;
                 kept_so_far += 1;
             }
@@ -91,30 +89,30 @@ impl<'a, T: Record> Table<'a, T> {
     /// The place of the first live record of that key.
     pub fn find(&self, key: T::Id, time: u64) -> Option<usize>
         ensures within { IfSome result (λ i. i < self.now.count.now) }
-        ensures first { result ≡ first_place (live_of T.Record.ident T.Record.until (T.Id.Key.number key) time) (used self.now) }
+        ensures first { result ≡ first_place (live_of T.Id.PartialEq.eq T.ident T.until key time) (used self.now) }
     {
-        slots::find(self.slots, *self.count, key, time)
+        find(self.records(), key, time)
     }
 
     /// How many records are live.
     pub fn count_live(&self, time: u64) -> usize
-        ensures { result ≡ count_by (live T.Record.until time) (used self.now) }
+        ensures { result ≡ count_by (live T.until time) (used self.now) }
     {
-        slots::count_live(self.slots, *self.count, time)
+        count_live(self.records(), time)
     }
 
     /// Removes the records of that key, live or not, closes up, and says whether there were any.
     pub fn remove(&mut self, key: T::Id) -> bool
         ensures any { result ≡ nat_lt self.new.count.now self.old.count.now }
-        ensures count { self.new.count.now ≡ count_by (λ x. not (of_key T.Record.ident (T.Id.Key.number key) x)) (used self.old) }
-        ensures used { used self.new ≡ filter (λ x. not (of_key T.Record.ident (T.Id.Key.number key) x)) (used self.old) }
+        ensures count { self.new.count.now ≡ count_by (λ x. not (of_key T.Id.PartialEq.eq T.ident key x)) (used self.old) }
+        ensures used { used self.new ≡ filter (λ x. not (of_key T.Id.PartialEq.eq T.ident key x)) (used self.old) }
         ensures fewer { self.new.count.now ≤ self.old.count.now }
         ensures long { length self.new.slots.now ≡ length self.old.slots.now }
         ensures behind { behind self.new ≡ drop self.new.count.now self.old.slots.now }
         ensures lender { SameLender self.old self.new }
     {
         let before = *self.count;
-        self.retain(&OtherThan { key });
+        self.retain(|one| one.key() != key);
         *self.count < before
     }
 }

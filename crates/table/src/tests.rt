@@ -16,7 +16,7 @@ struct Entry {
 impl Record for Entry {
     type Id = GroupId;
 
-    ghost ident = { λ e. e.group.number };
+    ghost ident = { λ e. e.group };
 
     ghost until = { λ e. e.end };
 
@@ -47,15 +47,15 @@ impl Row {
     }
 
     fn find(&self, group: GroupId, time: u64) -> Option<usize>
-        ensures { result ≡ first_place (live_of (λ e. e.group.number) (λ e. e.end) group.number time) (take self.now.count self.now.entries) }
+        ensures { result ≡ first_place (live_of (λ a b. a == b) (λ e. e.group.number) (λ e. e.end) group.number time) (take self.now.count self.now.entries) }
     {
-        find(&self.entries, self.count, group, time)
+        find(&self.entries[..self.count], group, time)
     }
 
     fn count_live(&self, time: u64) -> usize
         ensures { result ≡ count_by (λ e. nat_lt time e.end) (take self.now.count self.now.entries) }
     {
-        count_live(&self.entries, self.count, time)
+        count_live(&self.entries[..self.count], time)
     }
 
     fn remove(&mut self, group: GroupId) -> bool
@@ -78,7 +78,7 @@ struct Listing {
 impl Record for Listing {
     type Id = McpttId;
 
-    ghost ident = { λ l. l.user.number };
+    ghost ident = { λ l. l.user };
 
     ghost until = { λ l. l.end };
 
@@ -98,21 +98,9 @@ struct Listings {
     ghost within: { count ≤ 2 },
 }
 
-/// Passes the listings that have a radio.
-#[derive(Clone, Copy)]
-struct AnyRadio;
-
-impl Test<Listing> for AnyRadio {
-    ghost holds = { λ _ l. not (l.radios == 0) };
-
-    fn passes(&self, one: &Listing) -> bool {
-        one.radios != 0
-    }
-}
-
 impl Listings {
     fn renew(&mut self, new: Listing, time: u64) -> Result<(), Full>
-        ensures { MatchOption (first_place (live_of (λ l. l.user.number) (λ l. l.end) new.user.number time) (take self.old.count self.old.listings)) ((is_ok result ≡ nat_lt self.old.count 2) × (self.new.count ≡ (if is_ok result then self.old.count + 1 else self.old.count)) × (self.new.listings ≡ (if is_ok result then slice_set self.old.listings self.old.count new else self.old.listings))) (λ i. (is_ok result ≡ true) × (self.new.count ≡ self.old.count) × (self.new.listings ≡ slice_set self.old.listings i new)) }
+        ensures { MatchOption (first_place (live_of (λ a b. a == b) (λ l. l.user.number) (λ l. l.end) new.user.number time) (take self.old.count self.old.listings)) ((is_ok result ≡ nat_lt self.old.count 2) × (self.new.count ≡ (if is_ok result then self.old.count + 1 else self.old.count)) × (self.new.listings ≡ (if is_ok result then slice_set self.old.listings self.old.count new else self.old.listings))) (λ i. (is_ok result ≡ true) × (self.new.count ≡ self.old.count) × (self.new.listings ≡ slice_set self.old.listings i new)) }
     {
         let mut table = Table::over(&mut self.listings, &mut self.count);
         match table.find(new.user, time) {
@@ -128,7 +116,7 @@ impl Listings {
         ensures { take self.new.count self.new.listings ≡ filter (λ l. not (l.radios == 0)) (take self.old.count self.old.listings) }
     {
         let mut table = Table::over(&mut self.listings, &mut self.count);
-        table.retain(&AnyRadio);
+        table.retain(|listing| listing.radios != 0);
     }
 }
 
@@ -210,5 +198,18 @@ fn a_listing_is_renewed_in_place(rt: HostRuntime) -> Result<(), Fail> {
     listed.keep_with_radios();
     assert!(rt; listed.count == 1);
     assert!(rt; listed.listings[0].user.number == 5);
+    Ok(())
+}
+
+#[test]
+fn owned_slots(rt: HostRuntime) -> Result<(), Fail> {
+    let mut slots: Slots<Listing, 3> = Slots::empty(listing_of(0, 0, 0));
+    slots.add(listing_of(5, 1, 100))?;
+    slots.add(listing_of(6, 0, 100))?;
+    slots.add(listing_of(7, 2, 100))?;
+    assert!(rt; slots.add(listing_of(8, 1, 100)) == Err(Full));
+    slots.retain(|listing| listing.radios != 0);
+    assert_eq!(rt; slots.len(), 2);
+    assert!(rt; slots.as_slice()[1].user == McpttId { number: 7 });
     Ok(())
 }

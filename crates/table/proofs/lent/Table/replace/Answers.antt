@@ -1,12 +1,6 @@
 use Rattle.std.proofs.Common.{rules}
-use Rattle.table.proofs.Parts.{take_set_in}
+use Rattle.std.proofs.Math.Seq.{take-set-lt}
 use Rattle.table.proofs.lent.Table.replace.Goals as goal
 
-pub returns : goal.returns
-returns g c =
-    record {
-      count = search rules;
-      slots = search rules;
-      used = search (rules, take_set_in);
-      lender = search rules;
-    }
+pub returns-clause-used : goal.returns-clause-used
+returns-clause-used g c = search (rules, take-set-lt)

@@ -1,37 +1,41 @@
-use Rattle.std.proofs.Common.{◌≡◌, ◌<◌, length, sym, arith}
-use Rattle.std.proofs.lemmas.List.{get_or_default}
-use Rattle.table.proofs.Sifting.{sifting_more_no, sifting_more_set, sifting_count, sifting_front}
+use Rattle.std.proofs.Common.{◌+◌, ◌<◌, length, take, drop, count_by, sym, ap, ◌∙◌, arith}
+use Rattle.std.proofs.lemmas.List.{get_or_default, length-set, length-take-le, drop-set-lt, drop-drop}
+use Rattle.std.proofs.lemmas.List.Filters.{FiltersInPlace-more_no, FiltersInPlace-more_set}
+use Rattle.std.proofs.lemmas.List.Sums.{length-filter}
+use Rattle.table.proofs.Calls.{answer_at}
 use Rattle.table.proofs.lent.Table.retain.Goals as goal
-use Rattle.table.proofs.lent.Table.retain.Goals.{then-passes, else-passes}
+use Rattle.table.proofs.lent.Table.retain.Goals.{then-test, else-test}
 
 pub loop-i-preserved : goal.loop-i-preserved
 loop-i-preserved g c =
-    let h : c.loop-i.i < length c.loop-i.self.slots.now = omega arith in
-    elim c.if-passes.branch [
-      | then-passes w ↦
+    let k = c.loop-i.kept_so_far in
+    let ys = c.loop-i.self.slots.now in
+    let h : c.loop-i.i < length ys = omega arith in
+    elim c.if-test.branch [
+      | then-test w ↦
           rw (w.self-is, w.kept_so_far-is) (
-            sifting_more_set c.loop-i.invariant.0 h (sym w.if-passes.ensures) (get_or_default _ _ _ _ h),
-            c.loop-i.invariant.1,
-            c.loop-i.invariant.2,
-            c.loop-i.invariant.3,
+            omega arith,
+            length-set ys k _ ∙ c.loop-i.invariant.1,
+            drop-set-lt (k + 1) ys k _ (omega arith) ∙ sym (drop-drop 1 k ys) ∙ ap (drop 1) c.loop-i.invariant.2 ∙ drop-drop 1 k _,
+            λ p a. FiltersInPlace-more_set (c.loop-i.invariant.3 p a) h (sym (answer_at a (w.if-test.ensures))) (get_or_default _ _ _ _ h),
+            c.loop-i.invariant.4,
+            c.loop-i.invariant.5,
+            c.loop-i.invariant.6,
           )
-      | else-passes w ↦
+      | else-test w ↦
           rw (w.self-is, w.kept_so_far-is) (
-            sifting_more_no c.loop-i.invariant.0 h (sym w.if-passes.ensures) (get_or_default _ _ _ _ h),
+            omega arith,
             c.loop-i.invariant.1,
             c.loop-i.invariant.2,
-            c.loop-i.invariant.3,
+            λ p a. FiltersInPlace-more_no (c.loop-i.invariant.3 p a) h (sym (answer_at a (w.if-test.ensures))) (get_or_default _ _ _ _ h),
+            c.loop-i.invariant.4,
+            c.loop-i.invariant.5,
+            c.loop-i.invariant.6,
           )
     ]
 
-pub returns : goal.returns
-returns g c =
-    let done : c.loop-i.i ≡ c.args.self.now.count.now = omega arith in
-    record {
-      count = sifting_count _ c.loop-i.invariant.0 done;
-      used = sifting_front _ c.loop-i.invariant.0 done;
-      fewer = omega (arith, c.loop-i.invariant.0.keeping.behind);
-      long = c.loop-i.invariant.0.keeping.long;
-      behind = c.loop-i.invariant.0.behind;
-      lender = (c.loop-i.invariant.2, c.loop-i.invariant.3);
-    }
+pub returns-clause-count : goal.returns-clause-count
+returns-clause-count g c p a =
+    let f = c.loop-i.invariant.3 p a in
+    sym (length-take-le _ _ (omega arith)) ∙ ap length f.front ∙ length-filter p _
+    ∙ ap (λ j. count_by p (take j c.args.self.now.slots.now)) (omega arith)
