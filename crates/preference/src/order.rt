@@ -18,5 +18,6 @@ pub trait Preference {
     /// Of two different groups exactly one comes before the other.
     ghost decisive: { (p : Self) (u a b : ℕ) → (a ≢ b) → before p u a b ≡ not (before p u b a) };
 
-    ghost transitive: { (p : Self) (u a b c : ℕ) → before p u a b ≡ true → before p u b c ≡ true → before p u a c ≡ true };
+    ghost transitive: { (p : Self) (u a b c : ℕ)
+        → before p u a b ≡ true → before p u b c ≡ true → before p u a c ≡ true };
 }

@@ -8,7 +8,7 @@ use crate::order::Preference;
 use mcptt::{GroupId, ServedUser};
 
 /// A group and its priority. A row of group 0 is unused.
-#[derive(Clone, Copy)]
+#[derive(Clone, Copy, Debug, PartialEq, Eq)]
 pub struct PriorityRow {
     pub group: GroupId,
     pub priority: u8,
@@ -16,7 +16,7 @@ pub struct PriorityRow {
 
 /// The smaller priority comes first, then the smaller group. The first row that names a group
 /// decides, and a group in no row has priority 255.
-#[derive(Clone, Copy)]
+#[derive(Clone, Copy, Debug, PartialEq, Eq)]
 pub struct PriorityTable {
     pub rows: [PriorityRow; 32],
 }
@@ -25,7 +25,7 @@ impl PriorityRow {
     fn names_group(&self, group: GroupId) -> bool
         ensures { result ≡ names self.now group.number }
     {
-        self.group.number != 0 && self.group.number == group.number
+        self.group.number != 0 && self.group == group
     }
 }
 
@@ -46,12 +46,9 @@ impl PriorityTable {
 fn priority_in(rows: &[PriorityRow], group: GroupId) -> u8
     ensures { result ≡ priority_of rows.now group.number }
 {
-    for row in rows {
-        if row.names_group(group) {
-            return row.priority;
-        }
-    }
-    255
+    rows.iter()
+        .find(|row| row.names_group(group))
+        .map_or(255, |row| row.priority)
 }
 
 impl Preference for PriorityTable {
@@ -64,8 +61,6 @@ impl Preference for PriorityTable {
     ghost transitive = { Prim.search rules };
 
     fn comes_before(&self, _user: ServedUser, a: GroupId, b: GroupId) -> bool {
-        let first = priority_in(&self.rows, a);
-        let second = priority_in(&self.rows, b);
-        first < second || first == second && a.number < b.number
+        (priority_in(&self.rows, a), a) < (priority_in(&self.rows, b), b)
     }
 }

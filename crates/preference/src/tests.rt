@@ -19,9 +19,7 @@ fn check_first<P: Preference>(
     a: u32,
     b: u32,
 ) -> Result<(), Fail> {
-    let Ok(user) = ServedUser::try_from(McpttId { number: user }) else {
-        return Err(Fail::new("not a served user"));
-    };
+    let user = ServedUser::try_from(McpttId { number: user })?;
     let a = GroupId { number: a };
     let b = GroupId { number: b };
     assert!(rt; order.comes_before(user, a, b));

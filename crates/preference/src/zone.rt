@@ -9,7 +9,7 @@ use mcptt::{GroupId, ServedUser};
 
 /// The smaller distance between the zone of the group and the home zone of the user comes first,
 /// then the smaller group. User 1 has the first home.
-#[derive(Clone, Copy)]
+#[derive(Clone, Copy, Debug, PartialEq, Eq)]
 pub struct ZoneOrder {
     pub homes: [u16; 64],
 }
@@ -28,11 +28,7 @@ impl ZoneOrder {
     {
         let home = self.homes[user.number as usize - 1];
         let zone = (group.number / 65536) as u16;
-        if zone < home {
-            home - zone
-        } else {
-            zone - home
-        }
+        zone.abs_diff(home)
     }
 }
 
@@ -46,8 +42,6 @@ impl Preference for ZoneOrder {
     ghost transitive = { Prim.search rules };
 
     fn comes_before(&self, user: ServedUser, a: GroupId, b: GroupId) -> bool {
-        let first = self.distance(user, a);
-        let second = self.distance(user, b);
-        first < second || first == second && a.number < b.number
+        (self.distance(user, a), a) < (self.distance(user, b), b)
     }
 }

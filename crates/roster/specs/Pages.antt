@@ -1,6 +1,7 @@
 -- Documents in pages, one page to a group: what a list of pages says.
-use Rattle.std.specs.Prelude.{ℕ, zero, suc, cond, List, [], ◌∷◌, ◌++◌, map, Some, None, Option, ◌==◌}
+use Rattle.std.specs.Prelude.{ℕ, zero, suc, cond, List, [], ◌∷◌, ◌++◌, map, take, Some, None, Option, ◌==◌}
 use Rattle.roster.specs.Meaning.{among}
+use Rattle.table.specs.declared.owned.Slots.{Slots}
 use Rattle.sheet.specs.declared.group_document.GroupDocument.{GroupDocument}
 use Rattle.sheet.specs.Contents.{Content, content}
 
@@ -12,6 +13,10 @@ pub record Filed : Type 0 where
 -- what the page of a document says
 abbrev pub filed_as : GroupDocument → Filed
 filed_as d = record { group = d.group.number; document = content d.document }
+
+-- what the pages in use say, in order
+abbrev pub filed : {P : Type 0} {N : ℕ} → (P → Filed) → Slots P N → List Filed
+filed says pages = map says (take pages.count pages.places)
 
 -- the groups of the pages, in order
 abbrev pub groups_in : List Filed → List ℕ

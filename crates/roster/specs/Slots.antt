@@ -1,5 +1,4 @@
 -- What the slots of the table say.
-use Rattle.std.specs.Prelude.{List, map}
 use Rattle.sheet.specs.Contents.{content}
 use Rattle.roster.specs.declared.slot.Slot.{Slot}
 use Rattle.roster.specs.Pages.{Filed}
@@ -7,7 +6,3 @@ use Rattle.roster.specs.Pages.{Filed}
 -- its group, and what its document says
 abbrev pub slot_says : Slot → Filed
 slot_says s = record { group = s.group.number; document = content s.document }
-
--- what slots say, one by one
-abbrev pub slots_say : List Slot → List Filed
-slots_say slots = map slot_says slots

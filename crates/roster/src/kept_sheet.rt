@@ -1,19 +1,34 @@
-//! A sheet that is kept as its bytes: every answer is read from them.
+//! The store of 8 sheets, and its pages: a sheet is kept as its bytes, and every answer is read from them.
 ghost use Rattle.roster.specs.Sheets.{sheet_says};
+ghost use Rattle.std.proofs.Common.{lit≤};
 
-use crate::members::{members_of, user_at};
-use crate::page::Page;
+use crate::page::{Page, Shelved};
+use crate::page_roster::PageRoster;
 use mcptt::{GroupId, McpttId};
 use sheet::{GroupDocument, sheet_document, sheet_group, sheet_names, write};
 
+/// A roster of 8 sheets, kept as bytes.
+pub type SheetStore = PageRoster<KeptSheet, 8>;
+
 /// A sheet of the store. Any 512 bytes say a group and a document.
-#[derive(Clone, Copy)]
+#[derive(Clone, Copy, Debug)]
 pub struct KeptSheet {
     pub bytes: [u8; 512],
 }
 
 impl Page for KeptSheet {
     ghost says = { sheet_says };
+
+    fn of(document: &GroupDocument) -> KeptSheet {
+        let mut bytes = [0; 512];
+        // A document within the rules is never refused.
+        let _ = write(document.group, &document.document, &mut bytes);
+        KeptSheet { bytes }
+    }
+
+    fn unused() -> KeptSheet {
+        KeptSheet { bytes: [0; 512] }
+    }
 
     fn group(&self) -> GroupId {
         sheet_group(&self.bytes)
@@ -24,15 +39,17 @@ impl Page for KeptSheet {
     }
 
     fn member_count(&self) -> usize {
-        members_of(&sheet_document(&self.bytes)).len()
+        sheet_document(&self.bytes).listed().len()
     }
 
     fn member_at(&self, place: usize) -> Option<McpttId> {
-        user_at(members_of(&sheet_document(&self.bytes)), place)
+        sheet_document(&self.bytes)
+            .listed()
+            .get(place)
+            .map(|member| member.user)
     }
+}
 
-    // a document within the rules is never refused
-    fn put(&mut self, document: &GroupDocument) {
-        let _ = write(document.group, &document.document, &mut self.bytes);
-    }
+impl Shelved<8> for KeptSheet {
+    ghost few = { (lit≤ tt, lit≤ tt) };
 }

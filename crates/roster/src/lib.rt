@@ -3,21 +3,17 @@
 
 mod catalogue;
 mod kept_sheet;
-mod members;
 mod page;
+mod page_roster;
 mod pages;
 mod placing;
 mod roster;
 mod slot;
-mod store;
-mod stores;
-mod table;
-mod tables;
 #[cfg(test)]
 mod tests;
 
 pub use catalogue::Catalogue;
+pub use kept_sheet::SheetStore;
 pub use placing::place_sheet;
 pub use roster::Roster;
-pub use store::SheetStore;
-pub use table::DocumentTable;
+pub use slot::DocumentTable;

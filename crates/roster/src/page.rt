@@ -3,14 +3,21 @@ ghost use Rattle.roster.specs.Meaning.{users_in};
 ghost use Rattle.roster.specs.Pages.{Filed, filed_as};
 ghost use Rattle.sheet.specs.Rules.{names};
 ghost use Rattle.std.specs.List.{slice_get};
-ghost use Rattle.std.specs.Prelude.{◌≡◌, length};
+ghost use Rattle.std.specs.Prelude.{◌≡◌, ◌≤◌, length};
 
 use mcptt::{GroupId, McpttId};
 use sheet::GroupDocument;
 
 /// A page means the group and the document that it says.
-pub trait Page {
+pub trait Page: Copy {
     ghost says: { Self → Filed };
+
+    /// The page of a group and its document.
+    fn of(document: &GroupDocument) -> Self
+        ensures { says result ≡ filed_as document.now };
+
+    /// A page that is not in use.
+    fn unused() -> Self;
 
     /// The group of the page.
     fn group(&self) -> GroupId
@@ -27,8 +34,9 @@ pub trait Page {
     /// The user of the member at a place, counted from 0.
     fn member_at(&self, place: usize) -> Option<McpttId>
         ensures { result ≡ slice_get (users_in (says self.now).document.members) place };
+}
 
-    /// Puts a group and its document onto the page.
-    fn put(&mut self, document: &GroupDocument)
-        ensures { says self.new ≡ filed_as document.now };
+/// Pages of which a roster has `N`, from 1 to 16.
+pub trait Shelved<const N: usize>: Page {
+    ghost few: { (1 ≤ N) × (N ≤ 16) };
 }

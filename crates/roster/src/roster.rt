@@ -11,12 +11,11 @@ use sheet::GroupDocument;
 /// The documents of groups. What a roster means is `held`, the document of each group, and `carried`,
 /// the groups that have one: generic code knows a roster by these alone.
 pub trait Roster: Sized {
-    /// How many groups it can carry, from 1 to 16. Clauses speak of `most` in its stead, and each
-    /// roster's `room` answers that by this constant.
+    /// How many groups it can carry, from 1 to 16.
     const GROUPS: usize;
 
-    // how many groups it can carry
-    ghost most: { ℕ };
+    // the same for clauses
+    ghost GROUPS: { ℕ };
 
     // what the document of a group says, if the group has one
     ghost held: { Self → ℕ → Option Content };
@@ -26,7 +25,7 @@ pub trait Roster: Sized {
 
     /// How many groups it can carry.
     fn room() -> usize
-        ensures { result ≡ most };
+        ensures { result ≡ GROUPS };
 
     /// A roster without a document.
     fn empty() -> Self
@@ -36,7 +35,11 @@ pub trait Roster: Sized {
     /// Puts the document in place of the group's former one, if any. Refused with 21 if the group has
     /// none and the roster carries its full number; then all stays.
     fn replace(&mut self, document: &GroupDocument) -> Result<(), Refusal>
-        ensures { MatchResult result (λ _. Replaced most (held self.old) (held self.new) (carried self.old) document.now.group.number (content document.now.document)) (λ e. (no_room most (held self.old) (carried self.old) document.now.group.number ≡ true) × (e ≡ RosterFull) × (self.new ≡ self.old)) };
+        ensures { MatchResult result
+            (λ _. Replaced GROUPS (held self.old) (held self.new) (carried self.old)
+            document.now.group.number (content document.now.document))
+            (λ e. (no_room GROUPS (held self.old) (carried self.old) document.now.group.number ≡ true)
+            × (e ≡ RosterFull) × (self.new ≡ self.old)) };
 
     /// Whether the group has a document.
     fn has_document(&self, group: GroupId) -> bool
@@ -47,7 +50,7 @@ pub trait Roster: Sized {
         ensures { result ≡ names user.number (members_in (held self.now group.number)) };
 
     // from 1 to 16
-    ghost few: { (1 ≤ most) × (most ≤ 16) };
+    ghost few: { (1 ≤ GROUPS) × (GROUPS ≤ 16) };
 
     // no group is carried twice
     ghost different: { (s : Self) → apart (carried s) ≡ true };
@@ -56,5 +59,5 @@ pub trait Roster: Sized {
     ghost carries: { (s : Self) (g : ℕ) → is_some (held s g) ≡ among g (carried s) };
 
     // no more groups are carried than can be
-    ghost within: { (s : Self) → length (carried s) ≤ most };
+    ghost within: { (s : Self) → length (carried s) ≤ GROUPS };
 }

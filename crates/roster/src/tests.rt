@@ -1,6 +1,6 @@
 //! Both rosters, by tests that know them by their traits alone.
 use crate::{Catalogue, DocumentTable, Roster, SheetStore, place_sheet};
-use mcptt::{GroupId, McpttId};
+use mcptt::{GroupId, McpttId, Refusal};
 use sheet::{Document, GroupDocument, Member, write};
 use std::process::Abort;
 use std::test::Fail;
@@ -32,10 +32,9 @@ fn naming(number: u32) -> Document {
 
 /// Whether the roster took a document of the group with one member.
 fn took<R: Roster>(roster: &mut R, number: u32, member: u32) -> bool {
-    match GroupDocument::of(group(number), &naming(member)) {
-        Ok(document) => roster.replace(&document).is_ok(),
-        Err(_) => false,
-    }
+    GroupDocument::of(group(number), &naming(member)).is_ok_and(|document| roster
+        .replace(&document)
+        .is_ok())
 }
 
 fn replaces<R: Catalogue + Drop>(rt: &impl Abort) -> Result<(), Fail> {
@@ -72,28 +71,27 @@ fn fills<R: Catalogue + Drop>(rt: &impl Abort, places: usize) {
     assert!(rt; roster.names(group(8), user(108)) && roster.carried_count() == places);
 }
 
-/// The number with which a sheet of the group is refused, 0 if it is taken.
-fn placed<R: Roster>(roster: &mut R, number: u32, length: usize) -> u8 {
+/// The number with which a sheet of the group is refused, if it is.
+fn placed<R: Roster>(roster: &mut R, number: u32, length: usize) -> Option<u8> {
     let mut bytes = [0; 512];
     let _ = write(group(number), &naming(5), &mut bytes);
-    match place_sheet(roster, &bytes[..length.min(512)]) {
-        Ok(_) => 0,
-        Err(refusal) => refusal.number(),
-    }
+    place_sheet(roster, &bytes[..length.min(512)])
+        .err()
+        .map(Refusal::number)
 }
 
 fn takes_sheets<R: Roster + Drop>(rt: &impl Abort) {
     let mut roster = R::empty();
-    assert_eq!(rt; placed(&mut roster, 90, 511), 18);
-    assert_eq!(rt; placed(&mut roster, 0, 512), 20);
+    assert_eq!(rt; placed(&mut roster, 90, 511), Some(18));
+    assert_eq!(rt; placed(&mut roster, 0, 512), Some(20));
     assert!(rt; !roster.has_document(group(0)) && !roster.has_document(group(90)));
-    assert_eq!(rt; placed(&mut roster, 90, 512), 0);
+    assert_eq!(rt; placed(&mut roster, 90, 512), None);
     assert!(rt; roster.names(group(90), user(5)) && !roster.names(group(90), user(6)));
     for number in 1..R::room() as u32 {
-        assert_eq!(rt; placed(&mut roster, number, 512), 0);
+        assert_eq!(rt; placed(&mut roster, number, 512), None);
     }
-    assert_eq!(rt; placed(&mut roster, 91, 512), 21);
-    assert_eq!(rt; placed(&mut roster, 90, 512), 0);
+    assert_eq!(rt; placed(&mut roster, 91, 512), Some(21));
+    assert_eq!(rt; placed(&mut roster, 90, 512), None);
 }
 
 #[test]

@@ -8,13 +8,6 @@ use Rattle.sheet.specs.Contents.{content}
 use Rattle.sheet.specs.Layout.{head_bytes, members_bytes, sheet_bytes}
 use Rattle.sheet.proofs.Sums.{sum_take}
 
--- one more member, of the bytes x, stands in the buffer
-pub member_more : (o o' x rest whole : List ℕ) (i : ℕ) → take ((8 + 5 * i) + 5) o' ≡ take (8 + 5 * i) o ++ x
-    → take (8 + 5 * i) o ++ (x ++ rest) ≡ whole → take (8 + 5 * (i + 1)) o' ++ rest ≡ whole
-member_more o o' x rest whole i e h =
-    let k : 8 + 5 * (i + 1) ≡ (8 + 5 * i) + 5 = omega arith in
-    rw (k, e, append_assoc) h
-
 assembled : (head members o1 o2 o3 o4 : List ℕ) (n w : ℕ) → n ≤ 64
     → take 8 o1 ≡ head
     → take (8 + 5 * n) o2 ≡ take 8 o1 ++ members

@@ -2,4 +2,3 @@ pub mod Sums
 pub mod Bytes
 pub mod Back
 pub mod Reading
-pub mod Refusing

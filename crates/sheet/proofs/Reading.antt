@@ -1,41 +1,59 @@
 -- Bytes read member by member, and what is found in the sheet of a document.
-use Rattle.std.proofs.Common.{◌≡◌, ℕ, suc, ◌+◌, ◌-◌, ◌*◌, ◌<◌, ◌≤◌, Bool, true, List, ◌∷◌, ◌++◌, length, take, drop, set, Decides, sym, ap, ◌∙◌, ap₂, append_assoc, add-zero, arith}
+use Rattle.std.proofs.Common.{◌≡◌, ℕ, zero, suc, ◌+◌, ◌*◌, ◌<◌, ◌≤◌, true, ◌==◌, ◌||◌, List, ◌∷◌, map, length, get_or, drop, Some, None, cond, sym, refl, ap, ◌∙◌, ap₂, subst, ⊎_elim, add-zero, arith}
 use Rattle.std.proofs.lemmas.Slice.Eq.{bytes_eq-Decides}
-use Rattle.std.proofs.lemmas.Bool.{and_from, and_parts, le-leb}
-use Rattle.std.proofs.lemmas.List.{take_more_set, drop-drop, get_or-drop}
+use Rattle.std.proofs.lemmas.Bool.{and_from, and_parts, cases_lt, le-leb, cond-true, eq-eqb}
+use Rattle.std.proofs.lemmas.List.{drop-drop, get_or-drop}
+use Rattle.std.specs.List.{list_any, range_with_len}
+use Rattle.std.specs.Array.{IsFromFnResultFrom}
+use Rattle.std.specs.Fn.{Called}
+use denote.Param.Members.{Mut}
 use Rattle.sheet.specs.declared.document.Member.{Member}
 use Rattle.sheet.specs.declared.document.Document.{Document}
-use Rattle.sheet.specs.Octets.{quad_at}
+use Rattle.mcptt.specs.declared.refusal.Refusal.TheVariants.{ContentFaulty}
+use Rattle.sheet.specs.Octets.{quad_at, sum_of}
 use Rattle.sheet.specs.Contents.{Content, content}
-use Rattle.sheet.specs.Rules.{keeps_rules, lawful}
+use Rattle.sheet.specs.Rules.{names, keeps_rules, lawful}
 use Rattle.sheet.specs.Layout.{sheet_bytes}
 use Rattle.sheet.specs.Decoded.{member_of, members_of, group_of, content_of}
-use Rattle.sheet.specs.Promises.{ASheet, is_sheet}
+use Rattle.sheet.specs.Promises.{ASheet, is_sheet, unread}
 use Rattle.sheet.proofs.Back.{group_back, content_back}
 
 -- a number at a place, and at the front of what is left from there on
 pub quad_drop : (bytes : List ℕ) (k : ℕ) → quad_at bytes k ≡ quad_at (drop k bytes) 0
 quad_drop bytes k = simp (get_or-drop, add-zero)
 
--- the members from the member i on: the member i, and those from the next on
-pub members_more : (bytes : List ℕ) (i n : ℕ) → i < n
-    → members_of (n - i) (drop (8 + 5 * i) bytes) ≡ member_of (drop (8 + 5 * i) bytes) ∷ members_of (n - (i + 1)) (drop (8 + 5 * (i + 1)) bytes)
-members_more bytes i n lt =
-    let m : n - i ≡ suc (n - (i + 1)) = omega arith in
-    let k : 8 + 5 * (i + 1) ≡ (8 + 5 * i) + 5 = omega arith in
-    rw (m, k, ← drop-drop 5 (8 + 5 * i) bytes)
+-- the member i of those that stand in the bytes
+abbrev pub member_at : List ℕ → ℕ → Member
+member_at bytes i = member_of (drop (8 + 5 * i) bytes)
 
--- one more member is read
-pub member_read : (ms whole : List Member) (bytes : List ℕ) (i n : ℕ) (x : Member) → i < n → i < length ms
-    → x ≡ member_of (drop (8 + 5 * i) bytes)
-    → take i ms ++ members_of (n - i) (drop (8 + 5 * i) bytes) ≡ whole
-    → take (i + 1) (set ms i x) ++ members_of (n - (i + 1)) (drop (8 + 5 * (i + 1)) bytes) ≡ whole
-member_read ms whole bytes i n x lt within is h =
-    rw (take_more_set ms i x within, append_assoc, is) (rw (members_more bytes i n lt) at h)
+-- n members from the member k on
+pub members_from : (bytes : List ℕ) (k n : ℕ) → map (member_at bytes) (range_with_len k n) ≡ members_of n (drop (8 + 5 * k) bytes)
+members_from bytes k zero = refl
+members_from bytes k (suc n) =
+    let e : 8 + 5 * (k + 1) ≡ (8 + 5 * k) + 5 = omega arith in
+    ap (λ ms. member_at bytes k ∷ ms)
+    (members_from bytes (k + 1) n ∙ ap (members_of n) (ap (λ j. drop j bytes) e ∙ sym (drop-drop 5 (8 + 5 * k) bytes)))
 
--- bytes that equal a copy of a whole equal the whole
-pub image : {P : Type 0} (r : Bool) (bytes copy whole : List ℕ) → P → copy ≡ whole → Decides r (bytes ≡ copy) → Decides r (P × (bytes ≡ whole))
-image r bytes copy whole p e d = ((λ t. (p, d.0 t ∙ e)), (λ q. d.1 (q.1 ∙ sym e)))
+-- a user among them, by the numbers alone
+pub names_from : (bytes : List ℕ) (user k n : ℕ)
+    → list_any (λ i. quad_at bytes (8 + 5 * i) == user) (range_with_len k n) ≡ names user (map (member_at bytes) (range_with_len k n))
+names_from bytes user k zero = refl
+names_from bytes user k (suc n) =
+    ap₂ (λ q b. q == user || b) (quad_drop bytes (8 + 5 * k)) (names_from bytes user (k + 1) n)
+
+-- an array that a closure makes, where each call leaves the closure and answers by h below n
+pub made_from : {F X : Type 0} (g : Mut F (ℕ × Unit {0}) X) (f : F) (h : ℕ → X) (ys : List X) (n : ℕ)
+    → ((i : ℕ) (y : X) (q : F) → Called g f (i, tt) y q → (q ≡ f) × (i < n → y ≡ h i))
+    → (i m k : ℕ) (d : X) → IsFromFnResultFrom g f ys i m → i ≤ k → k < i + m → k < n → get_or ys k d ≡ h k
+made_from g f h ys n call i zero k d r le lt few = let no_way : ⊥ = omega arith in absurd no_way
+made_from g f h ys n call i (suc m) k d r le lt few =
+    let one = call i r.1 r.0 r.3 in
+    ⊎_elim
+    (λ (more : i < k). made_from g f h ys n call (i + 1) m k d (subst (λ p. IsFromFnResultFrom g p ys (i + 1) m) one.0 r.4) (omega arith) (omega arith) few)
+    (λ (last : k ≤ i).
+    let same : k ≡ i = omega arith in
+    ap (λ j. get_or ys j d) same ∙ (r.2.1 d ∙ (one.1 (omega arith) ∙ ap h (sym same))))
+    (cases_lt i k)
 
 -- a sheet is read as the group and the content that it is of, and they are within the rules
 pub found : (bytes : List ℕ) (g : ℕ) (c : Content) (group : ℕ) (d : Document) → keeps_rules g c ≡ true → bytes ≡ sheet_bytes g c
@@ -63,3 +81,8 @@ tested_sheet bytes t =
 
 pub lawful_tested : (bytes : List ℕ) (group : ℕ) (d : Document) → lawful group d ≡ true → bytes ≡ sheet_bytes group (content d) → is_sheet bytes ≡ true
 lawful_tested bytes group d ok e = sheet_tested bytes group (content d) (and_parts _ _ ok).1 e
+
+-- with 512 bytes and the right sum only the content can be wrong
+pub unread_content : (bytes : List ℕ) → length bytes ≡ 512 → sum_of bytes 508 ≡ quad_at bytes 508
+    → unread bytes ≡ cond (is_sheet bytes) None (Some ContentFaulty)
+unread_content bytes n s = cond-true _ _ _ (eq-eqb _ _ n) ∙ cond-true _ _ _ (eq-eqb _ _ s)

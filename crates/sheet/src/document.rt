@@ -2,7 +2,7 @@
 use mcptt::McpttId;
 
 /// A member of a group, with the marks required, may join and may start.
-#[derive(Clone, Copy)]
+#[derive(Clone, Copy, Debug, PartialEq, Eq)]
 pub struct Member {
     pub user: McpttId,
     pub required: bool,
@@ -12,7 +12,7 @@ pub struct Member {
 
 /// A group's document. Its members are the first `count` of the 64 places, in order; `limit` is the
 /// participant limit. A value may break the rules of a document: see `keeps_rules`.
-#[derive(Clone, Copy)]
+#[derive(Clone, Copy, Debug)]
 pub struct Document {
     pub disabled: bool,
     pub invite_members: bool,

@@ -6,7 +6,7 @@ use crate::document::Document;
 use mcptt::GroupId;
 
 /// A group from 1 and a document of it that keeps the rules of a document.
-#[derive(Clone, Copy)]
+#[derive(Clone, Copy, Debug)]
 pub struct GroupDocument {
     pub group: GroupId,
     pub document: Document,

@@ -19,6 +19,7 @@ pub(crate) fn pair(bytes: &[u8], at: usize) -> u16
     u16::from_be_bytes([bytes[at], bytes[at + 1]])
 }
 
+// `from_be_bytes` is no method of a trait, so one generic function would be longer than the two.
 /// The number in the four bytes from `at` on.
 pub(crate) fn quad(bytes: &[u8], at: usize) -> u32
     requires { at + 4 ≤ length bytes.now }
@@ -33,8 +34,8 @@ pub(crate) fn sum(bytes: &[u8]) -> u32
     ensures { result ≡ sum_of bytes.now 508 }
 {
     let mut sum: u32 = 0;
-    for i in 0..508 {
-        sum += (i as u32 + 1) * u32::from(bytes[i]);
+    for (i, byte) in bytes[..508].iter().enumerate() {
+        sum += (i as u32 + 1) * u32::from(*byte);
     }
     sum
 }

@@ -1,5 +1,5 @@
 //! The rules of a document, tested.
-ghost use Rattle.std.specs.Prelude.{◌≡◌, ◌≤◌, true, false, ◌&&◌, length, MatchResult, nat_le};
+ghost use Rattle.std.specs.Prelude.{◌≡◌, true, false, MatchResult};
 ghost use Rattle.mcptt.specs.declared.refusal.Refusal.TheVariants.{ContentFaulty};
 ghost use Rattle.sheet.specs.Contents.{content};
 ghost use Rattle.sheet.specs.Rules.{names, different, required_of, lawful};
@@ -12,39 +12,34 @@ use mcptt::{GroupId, McpttId, Refusal};
 fn is_named(members: &[Member], user: McpttId) -> bool
     ensures { result ≡ names user.number members.now }
 {
-    for member in members {
-        if member.user.number == user.number {
-            return true;
-        }
-    }
-    false
+    members.iter().any(|member| member.user == user)
 }
 
-/// Whether the members are different users, none of them 0, with no more required ones than `limit`.
-fn are_lawful(members: &[Member], limit: u8) -> bool
-    requires { length members.now ≤ 64 }
-    ensures { result ≡ (different members.now && nat_le (required_of members.now) limit) }
+/// Whether the members are different users, none of them 0.
+fn are_different(members: &[Member]) -> bool
+    ensures { result ≡ different members.now }
 {
-    let mut required: u8 = 0;
-    for i in 0..members.len() {
-        let member = members[i];
+    for (i, member) in members.iter().enumerate() {
         if member.user.number == 0 || is_named(&members[i + 1..], member.user) {
             return false;
         }
-        if member.required {
-            required += 1;
-        }
     }
-    required <= limit
+    true
+}
+
+/// How many members are required.
+fn required_in(members: &[Member]) -> usize
+    ensures { result ≡ required_of members.now }
+{
+    members.iter().filter(|member| member.required).count()
 }
 
 impl Document {
     /// The members: of the 64 places those below the count.
-    fn listed(&self) -> &[Member]
+    pub fn listed(&self) -> &[Member]
         ensures { result.now ≡ (content self.now).members }
     {
-        let places: &[Member] = &self.members;
-        &places[..self.count.min(places.len())]
+        &self.members[..self.count.min(64)]
     }
 
     /// Whether some member is this user.
@@ -59,17 +54,20 @@ impl Document {
         ensures { result ≡ lawful group.number self.now }
     {
         group.number != 0
-            && self.limit != 0
-            && self.limit <= 64
+            && (1..=64).contains(&self.limit)
             && self.count <= 64
-            && are_lawful(&self.members[..self.count], self.limit)
+            && are_different(self.listed())
+            && required_in(self.listed()) <= usize::from(self.limit)
     }
 }
 
 impl GroupDocument {
     /// The group with the document, or refusal 20 where they break the rules.
     pub fn of(group: GroupId, document: &Document) -> Result<GroupDocument, Refusal>
-        ensures { MatchResult result (λ d. (d.group ≡ group) × (d.document ≡ document.now) × (lawful group.number document.now ≡ true)) (λ e. (lawful group.number document.now ≡ false) × (e ≡ ContentFaulty)) }
+        ensures { MatchResult result
+            (λ d. (d.group ≡ group) × (d.document ≡ document.now)
+            × (lawful group.number document.now ≡ true))
+            (λ e. (lawful group.number document.now ≡ false) × (e ≡ ContentFaulty)) }
     {
         if !document.keeps_rules(group) {
             return Err(Refusal::ContentFaulty);

@@ -1,63 +1,52 @@
 //! Sheets and documents at the edges of the rules, and every refusal by an example.
 use crate::octets::{put, sum};
 use crate::{
-    Document, GroupDocument, Member, read, read_and_written, sheet_document, sheet_group,
-    sheet_names, write, written_and_read,
+    Document, Member, read, read_and_written, sheet_document, sheet_group, sheet_names, write,
+    written_and_read,
 };
 use mcptt::{GroupId, McpttId, Refusal};
+use std::array;
+use std::process::Abort;
 
 /// The users from 1001 on in all 64 places, of which `count` count, none of them required.
 fn document(limit: u8, count: usize) -> Document {
-    let mut members = [Member {
-        user: McpttId { number: 0 },
-        required: false,
-        may_join: true,
-        may_start: true,
-    }; 64];
-    for i in 0..64 {
-        members[i].user.number = 1001 + i as u32;
-    }
     Document {
         disabled: false,
         invite_members: false,
         limit,
-        members,
+        members: array::from_fn(|i| Member {
+            user: McpttId {
+                number: 1001 + i as u32,
+            },
+            required: false,
+            may_join: true,
+            may_start: true,
+        }),
         count,
     }
 }
 
-/// The refusal's number, or 0 where a sheet was read.
-fn outcome(answer: Result<GroupDocument, Refusal>) -> u8 {
-    match answer {
-        Ok(_) => 0,
-        Err(refusal) => refusal.number(),
-    }
+/// The number of the refusal, if it is one.
+fn refused<T: Drop>(answer: Result<T, Refusal>) -> Option<u8> {
+    answer.err().map(Refusal::number)
 }
 
-/// What comes of writing into a buffer full of 7s: the refusal's number, or 0; and 99 where a refusal
-/// did not leave the buffer.
-fn written(group: u32, document: &Document) -> u8 {
+/// What comes of writing into a buffer full of 7s, which a refusal leaves as it was.
+fn written(rt: &impl Abort, group: u32, document: &Document) -> Option<u8> {
     let mut out = [7; 512];
-    match write(GroupId { number: group }, document, &mut out) {
-        Ok(()) => 0,
-        Err(refusal) => {
-            if out == [7; 512] {
-                refusal.number()
-            } else {
-                99
-            }
-        }
-    }
+    let answer = write(GroupId { number: group }, document, &mut out);
+    assert!(rt; answer.is_ok() || out == [7; 512]);
+    refused(answer)
 }
 
 /// What comes of reading a sheet in which one byte, at a place up to 507, was altered and the sum put
 /// right again.
-fn altered(sheet: &[u8; 512], at: usize, byte: u8) -> u8 {
+fn altered(sheet: &[u8; 512], at: usize, byte: u8) -> Option<u8> {
     let mut bytes = *sheet;
     bytes[at.min(507)] = byte;
     let total = sum(&bytes);
     put(&mut bytes, 508, &total.to_be_bytes());
-    outcome(read(&bytes))
+    refused(read(&bytes))
 }
 
 #[test]
@@ -91,37 +80,37 @@ fn a_sheet_byte_by_byte(rt: HostRuntime) {
 
 #[test]
 fn documents_at_the_edges(rt: HostRuntime) {
-    assert_eq!(rt; written(1, &document(1, 0)), 0);
-    assert_eq!(rt; written(u32::MAX, &document(64, 64)), 0);
+    assert_eq!(rt; written(&rt, 1, &document(1, 0)), None);
+    assert_eq!(rt; written(&rt, u32::MAX, &document(64, 64)), None);
     assert_eq!(rt;
-        outcome(written_and_read(GroupId { number: 1 }, &document(64, 64))),
-        0
+        refused(written_and_read(GroupId { number: 1 }, &document(64, 64))),
+        None
     );
-    assert_eq!(rt; written(0, &document(1, 0)), 20);
-    assert_eq!(rt; written(1, &document(0, 0)), 20);
-    assert_eq!(rt; written(1, &document(65, 0)), 20);
-    assert_eq!(rt; written(1, &document(1, 65)), 20);
+    assert_eq!(rt; written(&rt, 0, &document(1, 0)), Some(20));
+    assert_eq!(rt; written(&rt, 1, &document(0, 0)), Some(20));
+    assert_eq!(rt; written(&rt, 1, &document(65, 0)), Some(20));
+    assert_eq!(rt; written(&rt, 1, &document(1, 65)), Some(20));
     let mut faulty = document(1, 64);
     faulty.members[0].required = true;
-    assert_eq!(rt; written(1, &faulty), 0);
+    assert_eq!(rt; written(&rt, 1, &faulty), None);
     faulty.members[63].required = true;
-    assert_eq!(rt; written(1, &faulty), 20);
+    assert_eq!(rt; written(&rt, 1, &faulty), Some(20));
     faulty.limit = 2;
-    assert_eq!(rt; written(1, &faulty), 0);
+    assert_eq!(rt; written(&rt, 1, &faulty), None);
     faulty.members[0].user.number = 0;
-    assert_eq!(rt; written(1, &faulty), 20);
+    assert_eq!(rt; written(&rt, 1, &faulty), Some(20));
     faulty.members[0].user = faulty.members[63].user;
-    assert_eq!(rt; written(1, &faulty), 20);
+    assert_eq!(rt; written(&rt, 1, &faulty), Some(20));
     faulty.count = 63;
-    assert_eq!(rt; written(1, &faulty), 0);
+    assert_eq!(rt; written(&rt, 1, &faulty), None);
     assert!(rt; faulty.names(McpttId { number: 1064 }) && !faulty.names(McpttId { number: 1001 }));
     assert_eq!(rt;
-        outcome(written_and_read(GroupId { number: 1 }, &faulty)),
-        0
+        refused(written_and_read(GroupId { number: 1 }, &faulty)),
+        None
     );
     assert_eq!(rt;
-        outcome(written_and_read(GroupId { number: 0 }, &faulty)),
-        20
+        refused(written_and_read(GroupId { number: 0 }, &faulty)),
+        Some(20)
     );
 }
 
@@ -137,18 +126,18 @@ fn sizes_and_sums(rt: HostRuntime) {
     assert!(rt; long == [7; 513]);
     let mut short = [7; 511];
     assert!(rt; write(group, &document(1, 0), &mut short) == Err(Refusal::NotSheetSize));
-    assert_eq!(rt; outcome(read(&long)), 18);
-    assert_eq!(rt; outcome(read(&sheet[1..])), 18);
-    assert_eq!(rt; outcome(read(&[])), 18);
-    assert_eq!(rt; outcome(read(&sheet)), 0);
-    for i in 0..4 {
+    assert_eq!(rt; refused(read(&long)), Some(18));
+    assert_eq!(rt; refused(read(&sheet[1..])), Some(18));
+    assert_eq!(rt; refused(read(&[])), Some(18));
+    assert_eq!(rt; refused(read(&sheet)), None);
+    for at in 508..512 {
         let mut wrong = sheet;
-        wrong[508 + i] = 11;
-        assert_eq!(rt; outcome(read(&wrong)), 19);
+        wrong[at] = 11;
+        assert_eq!(rt; refused(read(&wrong)), Some(19));
     }
     let mut faulty = sheet;
     faulty[4] = 255;
-    assert_eq!(rt; outcome(read(&faulty)), 19);
+    assert_eq!(rt; refused(read(&faulty)), Some(19));
     let mut copy = [7; 512];
     assert!(rt; read_and_written(&sheet, &mut copy).is_ok() && copy == sheet);
 }
@@ -159,9 +148,8 @@ fn content_against_the_layout(rt: HostRuntime) {
     let known = document(1, 2);
     assert!(rt; write(GroupId { number: 1 }, &known, &mut sheet).is_ok());
     let within = [(0, 1), (4, 1), (4, 3), (5, 64), (12, 0), (12, 7), (17, 5)];
-    for i in 0..7 {
-        let (at, byte) = within[i];
-        assert_eq!(rt; altered(&sheet, at, byte), 0);
+    for (at, byte) in within {
+        assert_eq!(rt; altered(&sheet, at, byte), None);
     }
     let against = [
         (3, 0),
@@ -189,16 +177,15 @@ fn content_against_the_layout(rt: HostRuntime) {
         (328, 1),
         (507, 1),
     ];
-    for i in 0..24 {
-        let (at, byte) = against[i];
-        assert_eq!(rt; altered(&sheet, at, byte), 20);
+    for (at, byte) in against {
+        assert_eq!(rt; altered(&sheet, at, byte), Some(20));
     }
     sheet[6] = 255;
-    assert_eq!(rt; altered(&sheet, 7, 255), 20);
+    assert_eq!(rt; altered(&sheet, 7, 255), Some(20));
     sheet[6] = 0;
     sheet[10] = 0;
-    assert_eq!(rt; altered(&sheet, 11, 0), 20);
+    assert_eq!(rt; altered(&sheet, 11, 0), Some(20));
     sheet[10] = 3;
     sheet[12] = 1;
-    assert_eq!(rt; altered(&sheet, 17, 1), 20);
+    assert_eq!(rt; altered(&sheet, 17, 1), Some(20));
 }

@@ -18,7 +18,7 @@ pub fn write(group: GroupId, document: &Document, out: &mut [u8]) -> Result<(), 
         return Err(Refusal::ContentFaulty);
     }
     put_head(out, group, document);
-    put_members(out, &document.members[..document.count]);
+    put_members(out, document.listed());
     put_zeros(out, 8 + 5 * document.count);
     let total = sum(out);
     put(out, 508, &total.to_be_bytes());

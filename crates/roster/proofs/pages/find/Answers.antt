@@ -1,21 +1,13 @@
-use Rattle.std.proofs.Common.{map, arith}
-use Rattle.std.proofs.lemmas.List.{at_drop_all}
-use Rattle.std.proofs.lemmas.Bool.Decides.{nat_tests}
-use Rattle.roster.specs.Pages.{place_of}
-use Rattle.roster.specs.Filing.{find_step}
+use Rattle.std.proofs.Common.{◌==◌, rules, tests}
+use Rattle.std.proofs.lemmas.Iterator.{YieldsList-from_slice}
+use Rattle.std.proofs.lemmas.Iterator.Search.{position_from_yields_List}
+use Rattle.roster.specs.Filing.{found_place}
 use Rattle.roster.proofs.pages.find.Goals as goal
-
-pub returns-then-group : goal.returns-then-group
-returns-then-group g c =
-    let s = find_step g.P.Page.says c.args.group.number c.args.pages.now c.loop-i.i c.index-pages-i.result (omega arith) c.index-pages-i.is in
-    (omega arith, grind (arith, nat_tests))
-
-pub loop-i-preserved : goal.loop-i-preserved
-loop-i-preserved g c =
-    let s = find_step g.P.Page.says c.args.group.number c.args.pages.now c.loop-i.i c.index-pages-i.result (omega arith) c.index-pages-i.is in
-    grind (arith, nat_tests)
 
 pub returns : goal.returns
 returns g c =
-    let e = at_drop_all (λ ps. place_of c.args.group.number (map g.P.Page.says ps)) c.args.pages.now c.loop-i.i (omega arith) in
-    grind (arith, nat_tests)
+    let says = g.P.Page.says in
+    let ps = c.args.pages.now in
+    let group = c.args.group.number in
+    found_place says group ps c.position.result
+    (position_from_yields_List (λ p. (says p).group == group) _ _ c.position.result c.position.ensures.ran (YieldsList-from_slice ps cc) (λ x b q k. search (rules, tests)))

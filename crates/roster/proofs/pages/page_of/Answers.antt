@@ -1,10 +1,13 @@
-use Rattle.roster.specs.Filing.{found_held, none_held}
+use Rattle.std.proofs.Common.{◌==◌, rules, tests}
+use Rattle.std.proofs.lemmas.Iterator.{YieldsList-from_slice}
+use Rattle.std.proofs.lemmas.Iterator.Search.{find_from_yields_List}
+use Rattle.roster.specs.Filing.{found_page}
 use Rattle.roster.proofs.pages.page_of.Goals as goal
 
-pub returns-in-Some : goal.returns-in-Some
-returns-in-Some g c =
-    let f = c.in-Some.ensures in
-    found_held g.P.Page.says c.args.group.number c.args.pages.now c.in-Some.place c.index-pages-place.result f.0 f.1 c.index-pages-place.is
-
-pub returns-in-None : goal.returns-in-None
-returns-in-None g c = none_held g.P.Page.says c.args.group.number c.args.pages.now c.in-None.ensures
+pub returns : goal.returns
+returns g c =
+    let says = g.P.Page.says in
+    let ps = c.args.pages.now in
+    let group = c.args.group.number in
+    found_page says _ group ps c.find.result
+    (find_from_yields_List (λ p. (says p).group == group) _ _ c.find.result c.find.ensures.ran (YieldsList-from_slice ps cc) (λ x b q k. search (rules, tests)))

@@ -1,21 +1,18 @@
-use Rattle.std.proofs.Common.{arith}
-use Rattle.std.proofs.lemmas.List.{at_drop_more, at_drop_all}
-use Rattle.std.proofs.lemmas.Bool.Decides.{nat_tests}
-use Rattle.sheet.specs.Contents.{nobody}
+use Rattle.std.proofs.Common.{◌≡◌, ℕ, List, [], ◌∷◌, refl, ◌∙◌, ◌==◌, rules, tests}
+use Rattle.std.proofs.lemmas.Iterator.{YieldsList-from_slice}
+use Rattle.std.proofs.lemmas.Iterator.Search.{any_from_yields_List}
+use Rattle.std.specs.List.{list_any}
+use Rattle.sheet.specs.declared.document.Member.{Member}
 use Rattle.sheet.specs.Rules.{names}
 use Rattle.sheet.proofs.rules.is_named.Goals as goal
 
-pub returns-then-member-user : goal.returns-then-member-user
-returns-then-member-user c =
-    let e = at_drop_more (names c.args.user.number) c.args.members.now c.loop-member.member-index nobody (omega arith) in
-    grind (arith, nat_tests, e)
-
-pub loop-member-preserved : goal.loop-member-preserved
-loop-member-preserved c =
-    let e = at_drop_more (names c.args.user.number) c.args.members.now c.loop-member.member-index nobody (omega arith) in
-    grind (arith, nat_tests, e)
+named : (user : ℕ) (ms : List Member) → list_any (λ (m : Member). m.user.number == user) ms ≡ names user ms
+named user [] = refl
+named user (m ∷ ms) = let ih = named user ms in cc
 
 pub returns : goal.returns
 returns c =
-    let e = at_drop_all (names c.args.user.number) c.args.members.now c.loop-member.member-index (omega arith) in
-    cc
+    let user = c.args.user.number in
+    let ms = c.args.members.now in
+    any_from_yields_List (λ (m : Member). m.user.number == user) _ _ _ c.any.ensures.ran (YieldsList-from_slice ms cc) (λ x b q k. search (rules, tests))
+    ∙ named user ms
