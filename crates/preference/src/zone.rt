@@ -26,7 +26,7 @@ impl ZoneOrder {
     fn distance(&self, user: ServedUser, group: GroupId) -> u16
         ensures { result ≡ far_from_home self.now.homes user.number group.number }
     {
-        let home = self.homes[user.number as usize - 1];
+        let home = self.homes[user.index()];
         let zone = (group.number / 65536) as u16;
         zone.abs_diff(home)
     }
