@@ -63,11 +63,13 @@ fn main(rt: HostRuntime) -> io::Result<()> {
     for attempt in &attempts {
         let radio = attempt.radio.number;
         let group = attempt.group.number;
-        print!(rt; "radio {radio} group {group}: ")?;
         match set_up(&mut serving, attempt) {
-            Ok(true) => println!(rt; "affiliated")?,
-            Ok(false) => println!(rt; "cancelled")?,
-            Err(refusal) => println!(rt; "refused {} {refusal}", refusal.number())?,
+            Ok(true) => println!(rt; "radio {radio} group {group}: affiliated")?,
+            Ok(false) => println!(rt; "radio {radio} group {group}: cancelled")?,
+            Err(refusal) => {
+                let number = refusal.number();
+                println!(rt; "radio {radio} group {group}: refused {number} {refusal}")?
+            }
         }
     }
     Ok(())

@@ -5,12 +5,12 @@ ghost use Rattle.change.specs.Keeping.{ahead_of, is_kept, kept_of, proper, may_w
 
 use mcptt::{GroupId, ServedUser};
 use preference::Preference;
-use rows::Groups;
+use rows::{Groups, is_among};
 
 fn is_new(group: GroupId, rest: &[GroupId]) -> bool
     ensures { result ≡ (nat_le 1 group.number && not (member group.number rest.now)) }
 {
-    group.number >= 1 && !rest.contains(&group)
+    group.number >= 1 && !is_among(rest, group)
 }
 
 fn is_proper(wanted: &[GroupId]) -> bool

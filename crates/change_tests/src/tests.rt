@@ -201,7 +201,10 @@ fn change_refuses(rt: HostRuntime) {
     );
     assert!(rt; change_at(0, &mut account, 1, &one, &mut out) == Err(Refusal::SerialsUsedUp));
     assert!(rt; out[0].expires == 5 && next_serial(&account) == Some(4_294_967_272));
-    account = enrolled(1, 4_294_967_271);
+    account.enrolment = Some(Enrolment {
+        limit: 1,
+        next_serial: 4_294_967_271,
+    });
     assert!(rt; change_at(0, &mut account, 1, &one, &mut out) == Ok((1, 0)));
 }
 
@@ -270,6 +273,9 @@ fn leave_refuses(rt: HostRuntime) {
     assert!(rt; leave_now(&mut account, 1, &mut out) == Err(Refusal::NotEnrolled));
     account = enrolled(1, 4_294_967_272);
     assert!(rt; leave_now(&mut account, 1, &mut out) == Err(Refusal::SerialsUsedUp));
-    account = enrolled(1, 4_294_967_271);
+    account.enrolment = Some(Enrolment {
+        limit: 1,
+        next_serial: 4_294_967_271,
+    });
     assert!(rt; leave_now(&mut account, 1, &mut out) == Ok(0));
 }

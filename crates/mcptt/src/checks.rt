@@ -93,7 +93,7 @@ impl Radio {
         ensures place { result ≡ self.number - 1 }
         ensures within { result < 4 }
     {
-        self.number as usize - 1
+        (self.number - 1) as usize
     }
 }
 

@@ -1,7 +1,20 @@
--- A pass that changes each of the first places of a list.
-use Rattle.std.proofs.Common.{◌≡◌, ℕ, ◌+◌, ◌<◌, ◌≤◌, List, [], ◌∷◌, ◌++◌, map, length, get_or, take, drop, set, ap, ◌∙◌, append-nil, arith}
-use Rattle.std.proofs.lemmas.List.{take_all, drop_all, drop_more, take_at, get_or_at, get_or_default, length-append, length-map, length-take, length-drop, length-take-le}
+-- A row changed in its place, and a pass that changes each of the first places of a list.
+use Rattle.std.proofs.Common.{◌≡◌, ℕ, ◌+◌, ◌-◌, ◌<◌, ◌≤◌, List, [], ◌∷◌, ◌++◌, map, length, get_or, take, drop, set, sym, ap, ap₂, ◌∙◌, append-nil, arith}
+use Rattle.std.proofs.lemmas.List.{take_all, drop_all, drop_more, take_at, get_or_at, get_or_default, get_or-map, map-set, length-append, length-map, length-take, length-drop, length-take-le}
 use Rattle.std.proofs.lemmas.List.Edits.{map_over_more}
+use Rattle.rows.specs.declared.entry.Entry.{Entry}
+use Rattle.rows.specs.declared.row.Row.{Row}
+use Rattle.rows.specs.Standings.{used}
+use Rattle.rows.specs.Holdings.{row_of}
+
+-- a row of a radio is written in its place
+pub row_changed : (rows : List Row) (radio k : ℕ) (old new : Row) (becomes : List Entry → List Entry) → k ≡ radio - 1 → k < length rows
+    → used new ≡ becomes (used (get_or rows k old))
+    → map used (set rows k new) ≡ set (map used rows) (radio - 1) (becomes (row_of (map used rows) radio))
+row_changed rows radio k old new becomes at lt e =
+    map-set used rows k new
+    ∙ ap₂ (λ j es. set (map used rows) j es) at
+    (e ∙ ap becomes (sym (get_or-map used rows k old [] lt) ∙ ap (λ j. get_or (map used rows) j []) at))
 
 -- ys began as xs, and the first i are changed
 abbrev pub Changed : {X : Type 0} → (X → X) → List X → List X → ℕ → Type 0

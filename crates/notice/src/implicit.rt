@@ -93,9 +93,7 @@ pub fn begin(
 {
     let (radio, enrolment) = may_begin(account, time, radio, group)?;
     let serial = enrolment.next_serial;
-    let mut row = *account.row(radio);
-    begin_row(&mut row, time, group, serial);
-    account.put(radio, row);
+    begin_row(&mut account.rows[radio.index()], time, group, serial);
     account.enrolment = Some(Enrolment {
         next_serial: serial + 1,
         ..enrolment

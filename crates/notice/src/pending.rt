@@ -1,5 +1,5 @@
 //! COMPLETE and CANCEL: what becomes of an implicit affiliation.
-ghost use Rattle.std.specs.Prelude.{◌≡◌, false};
+ghost use Rattle.std.specs.Prelude.{◌≡◌, false, not, map, filter};
 ghost use Rattle.std.specs.List.{list_any};
 ghost use Rattle.rows.specs.Standings.{used, standing};
 ghost use Rattle.notice.specs.Implicit.{pends, pends_live, completed, is_yes, complete_answer, after_complete, cancel_answer, after_cancel};
@@ -54,6 +54,21 @@ impl Begun {
             *entry
         }
     }
+
+    /// Makes its live entries of a row affiliated.
+    fn complete_in(self, row: &mut Row, time: Time)
+        ensures { used row.new ≡ map (completed time.seconds self.group.number self.serial) (used row.old) }
+    {
+        row.entries
+            .replace_each(|entry| self.completed(entry, time));
+    }
+
+    /// Removes its entries from a row.
+    fn cancel_in(self, row: &mut Row)
+        ensures { used row.new ≡ filter (λ e. not (pends self.group.number self.serial e)) (used row.old) }
+    {
+        row.entries.retain(|entry| !self.pends(entry));
+    }
 }
 
 /// COMPLETE: makes the live affiliating entry of the radio, group and serial affiliated; the answer is
@@ -68,10 +83,7 @@ pub fn complete(account: &mut Account, time: Time, begun: Begun) -> Result<bool,
     if account.enrolment.is_none() || !begun.lives_in(account.row(radio), time) {
         return Ok(false);
     }
-    let mut row = *account.row(radio);
-    row.entries
-        .replace_each(|entry| begun.completed(entry, time));
-    account.put(radio, row);
+    begun.complete_in(&mut account.rows[radio.index()], time);
     Ok(true)
 }
 
@@ -87,8 +99,6 @@ pub fn cancel(account: &mut Account, begun: Begun) -> Result<bool, Refusal>
     if account.enrolment.is_none() || !begun.is_in(account.row(radio)) {
         return Ok(false);
     }
-    let mut row = *account.row(radio);
-    row.entries.retain(|entry| !begun.pends(entry));
-    account.put(radio, row);
+    begun.cancel_in(&mut account.rows[radio.index()]);
     Ok(true)
 }

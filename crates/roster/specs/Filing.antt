@@ -1,8 +1,8 @@
 -- Lemmas on pages: where a group stands, and what putting a document in makes of them.
-use Rattle.std.specs.Prelude.{◌≡◌, ℕ, zero, suc, ◌+◌, ◌<◌, ◌≤◌, true, false, cond, not, ◌&&◌, ◌||◌, List, [], ◌∷◌, ◌++◌, map, length, get_or, take, set, is_some, Some, None, Option, MatchOption, IsSomeAnd, ◌==◌, nat_le, nat_lt, slice_set, refl}
+use Rattle.std.specs.Prelude.{◌≡◌, ℕ, zero, suc, ◌+◌, ◌<◌, ◌≤◌, true, false, cond, not, ◌&&◌, ◌||◌, List, [], ◌∷◌, ◌++◌, map, length, get_or, take, drop, set, is_some, Some, None, Option, MatchOption, IsSomeAnd, ◌==◌, nat_le, nat_lt, slice_index_or, slice_set, refl}
 use Rattle.std.proofs.Common.{sym, ap, ap₂, ltb, ◌∙◌, arith}
 use Rattle.std.proofs.Math.Seq.{take-set-lt}
-use Rattle.std.proofs.lemmas.List.{map-set, map_push, length-map, length-take, length-take-le}
+use Rattle.std.proofs.lemmas.List.{at_drop_more, map-set, map_push, take_more_set, length-map, length-take, length-take-le, get_or-map}
 use Rattle.std.proofs.lemmas.List.Recursion.{is_position_or_len}
 use Rattle.std.proofs.lemmas.Bool.Decides.{nat_tests}
 use Rattle.std.specs.List.{find, position_or_len, slice_get}
@@ -10,6 +10,13 @@ use Rattle.std.specs.Option.{option_map}
 use Rattle.mcptt.specs.declared.identity.GroupId.{GroupId}
 use Rattle.roster.specs.Meaning.{among, apart, no_room, with_document, as_groups}
 use Rattle.roster.specs.Pages.{Filed, groups_in, held_in, place_of, with_group}
+
+-- one step of the search for a group's page
+pub find_step : {P : Type 0} (says : P → Filed) (g : ℕ) (ps : List P) (i : ℕ) (p : P) → i < length ps → p ≡ slice_index_or ps i p
+    → place_of g (map says (drop i ps)) ≡ cond ((says p).group == g) 0 (suc (place_of g (map says (drop (i + 1) ps))))
+find_step says g ps i p lt e =
+    at_drop_more (λ us. place_of g (map says us)) ps i p lt
+    ∙ ap (λ q. cond ((says q).group == g) 0 (suc (place_of g (map says (drop (i + 1) ps))))) (sym e)
 
 -- the pages once a document is put in: on the first page of its group, or on a new one at the end
 abbrev pub put_in : List Filed → Filed → List Filed
@@ -19,6 +26,26 @@ put_in (p ∷ ps) new = cond (p.group == new.group) (new ∷ ps) (p ∷ put_in p
 place_within : (g : ℕ) (fs : List Filed) → place_of g fs ≤ length fs
 place_within g [] = omega arith
 place_within g (f ∷ fs) = let ih = place_within g fs in grind (arith, nat_tests)
+
+nowhere_held : (g : ℕ) (fs : List Filed) → place_of g fs ≡ length fs → held_in fs g ≡ None
+nowhere_held g [] e = refl
+nowhere_held g (f ∷ fs) e = let ih = nowhere_held g fs in grind (arith, nat_tests)
+
+place_held : (g : ℕ) (fs : List Filed) (d : Filed) → place_of g fs < length fs → held_in fs g ≡ Some (get_or fs (place_of g fs) d).document
+place_held g [] d lt = let no_way : ⊥ = omega arith in absurd no_way
+place_held g (f ∷ fs) d lt = let ih = place_held g fs d in grind (arith, nat_tests)
+
+-- the page that was found has the group's document
+pub found_held : {P : Type 0} (says : P → Filed) (g : ℕ) (ps : List P) (i : ℕ) (p : P) → i < length ps → place_of g (map says ps) ≡ i
+    → p ≡ slice_index_or ps i p → held_in (map says ps) g ≡ Some (says p).document
+found_held says g ps i p lt e is =
+    let n = length-map ps says in
+    place_held g (map says ps) (says p) (omega arith)
+    ∙ ap (λ (f : Filed). Some f.document) (ap (λ k. get_or (map says ps) k (says p)) e ∙ (get_or-map says ps i p (says p) lt ∙ ap says (sym is)))
+
+-- no page was found: the group has no document
+pub none_held : {P : Type 0} (says : P → Filed) (g : ℕ) (ps : List P) → place_of g (map says ps) ≡ length ps → held_in (map says ps) g ≡ None
+none_held says g ps e = nowhere_held g (map says ps) (e ∙ sym (length-map ps says))
 
 some_place : (g : ℕ) (fs : List Filed) → is_some (held_in fs g) ≡ nat_lt (place_of g fs) (length fs)
 some_place g [] = refl
@@ -30,7 +57,8 @@ found_some : {P : Type 0} (says : P → Filed) (g : ℕ) (ps : List P) (o : Opti
 found_some says g ps None h = let s = some_place g (map says ps) in let n = length-map ps says in grind (arith, nat_tests)
 found_some says g ps (Some i) h = let s = some_place g (map says ps) in let n = length-map ps says in grind (arith, nat_tests)
 
-group_there : {P : Type 0} (says : P → Filed) (ps : List P) (i : ℕ) (p : P) (g : GroupId) → i < length ps → p ≡ get_or ps i p
+-- the group at a place, and past the last
+pub group_there : {P : Type 0} (says : P → Filed) (ps : List P) (i : ℕ) (p : P) (g : GroupId) → i < length ps → p ≡ slice_index_or ps i p
     → g.number ≡ (says p).group → Some g ≡ slice_get (as_groups (groups_in (map says ps))) i
 group_there says [] i p g lt is e = let no_way : ⊥ = omega arith in absurd no_way
 group_there says (q ∷ qs) zero p g lt is e =
@@ -38,7 +66,7 @@ group_there says (q ∷ qs) zero p g lt is e =
     λ k. Some (record { number = n k })
 group_there says (q ∷ qs) (suc i) p g lt is e = group_there says qs i p g (omega arith) is e
 
-group_past : {P : Type 0} (says : P → Filed) (ps : List P) (i : ℕ) → length ps ≤ i → None ≡ slice_get (as_groups (groups_in (map says ps))) i
+pub group_past : {P : Type 0} (says : P → Filed) (ps : List P) (i : ℕ) → length ps ≤ i → None ≡ slice_get (as_groups (groups_in (map says ps))) i
 group_past says [] i le = refl
 group_past says (p ∷ ps) zero le = let no_way : ⊥ = omega arith in absurd no_way
 group_past says (p ∷ ps) (suc i) le = group_past says ps i (omega arith)
@@ -111,10 +139,23 @@ put_found says ps n i p f le lt e is =
     ∙ (ap₂ (λ k x. set fs k x) (sym e) is
     ∙ set_put fs f (omega arith)))
 
+-- the page behind those in use is written
+pub put_new : {P : Type 0} (says : P → Filed) (ps : List P) (n i : ℕ) (p : P) (f : Filed) → n ≤ i → i < length ps
+    → place_of f.group (map says (take n ps)) ≡ i → says p ≡ f → map says (take (i + 1) (slice_set ps i p)) ≡ put_in (map says (take n ps)) f
+put_new says ps n i p f le lt e is =
+    let fs = map says (take n ps) in
+    let long = length-map (take n ps) says ∙ length-take-le n ps (omega arith) in
+    let most = place_within f.group fs in
+    let same : i ≡ n = omega arith in
+    ap (map says) (take_more_set ps i p lt)
+    ∙ (map_push says (take i ps) p
+    ∙ (ap₂ (λ k x. map says (take k ps) ++ x ∷ []) same is
+    ∙ push_put fs f (omega arith)))
+
 -- a page is added behind those in use
-pub put_new : {P : Type 0} (says : P → Filed) (ps : List P) (p : P) (f : Filed) → place_of f.group (map says ps) ≡ length ps → says p ≡ f
+pub put_last : {P : Type 0} (says : P → Filed) (ps : List P) (p : P) (f : Filed) → place_of f.group (map says ps) ≡ length ps → says p ≡ f
     → map says (ps ++ p ∷ []) ≡ put_in (map says ps) f
-put_new says ps p f e is =
+put_last says ps p f e is =
     map_push says ps p
     ∙ (ap (λ x. map says ps ++ x ∷ []) is
     ∙ push_put (map says ps) f (e ∙ sym (length-map ps says)))

@@ -1,8 +1,10 @@
 //! A roster on pages, for any kind of page and any number of them.
-ghost use Rattle.std.specs.Prelude.{◌≡◌, true, ⊤};
+ghost use Rattle.std.specs.Prelude.{◌≡◌, true, ⊤, is_ok, MatchResult};
+ghost use Rattle.mcptt.specs.declared.refusal.Refusal.TheVariants.{RosterFull};
 ghost use Rattle.roster.specs.Filing.{carried_within, carries_held};
-ghost use Rattle.roster.specs.Meaning.{apart};
-ghost use Rattle.roster.specs.Pages.{filed, groups_in, held_in};
+ghost use Rattle.roster.specs.Meaning.{apart, no_room, Replaced};
+ghost use Rattle.roster.specs.Pages.{filed, groups_in, held_in, with_group};
+ghost use Rattle.sheet.specs.Contents.{content};
 
 use crate::catalogue::Catalogue;
 use crate::page::{Page, Shelved};
@@ -60,11 +62,22 @@ impl<P: Shelved<N>, const N: usize> Roster for PageRoster<P, N> {
         }
     }
 
-    fn replace(&mut self, document: &GroupDocument) -> Result<(), Refusal> {
-        let page = P::of(document);
+    // More than the trait asks: the groups stay in their order, and a new one stands behind them.
+    fn replace(&mut self, document: &GroupDocument) -> Result<(), Refusal>
+        ensures answer { let was = filed P.Page.says self.old.pages in
+            let is = filed P.Page.says self.new.pages in
+            MatchResult result
+            (λ _. Replaced N (held_in was) (held_in is) (groups_in was)
+            document.now.group.number (content document.now.document))
+            (λ e. (no_room N (held_in was) (groups_in was) document.now.group.number ≡ true)
+            × (e ≡ RosterFull) × (self.new ≡ self.old)) }
+        ensures order { is_ok result ≡ true
+            → groups_in (filed P.Page.says self.new.pages)
+            ≡ with_group (groups_in (filed P.Page.says self.old.pages)) document.now.group.number }
+    {
         match find(self.pages.as_slice(), document.group) {
-            Some(place) => self.pages.places[place] = page,
-            None if self.pages.len() < Self::GROUPS => self.pages.push(page),
+            Some(place) => self.pages.places[place] = P::of(document),
+            None if self.pages.len() < Self::GROUPS => self.pages.push(P::of(document)),
             None => return Err(Refusal::RosterFull),
         }
         Ok(())

@@ -25,7 +25,7 @@ impl Status {
 impl Record for Entry {
     type Id = GroupId;
 
-    ghost ident = { λ e. e.group };
+    ghost ident = { λ e. e.group.number };
 
     ghost until = { λ e. e.end };
 

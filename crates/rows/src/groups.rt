@@ -9,6 +9,13 @@ use crate::group_list::Groups;
 use mcptt::GroupId;
 use table::Slots;
 
+/// Whether the group is one of these.
+pub fn is_among(groups: &[GroupId], group: GroupId) -> bool
+    ensures { result ≡ member group.number groups.now }
+{
+    groups.iter().any(|one| *one == group)
+}
+
 impl Groups {
     /// No group.
     pub fn new() -> Groups
@@ -40,7 +47,7 @@ impl Groups {
     pub fn has(&self, group: GroupId) -> bool
         ensures { result ≡ member group.number (listed self.now) }
     {
-        self.as_slice().contains(&group)
+        is_among(self.as_slice(), group)
     }
 
     /// Adds the group at the end, where there is room.

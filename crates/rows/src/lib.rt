@@ -16,6 +16,7 @@ mod times;
 pub use account::{Account, Enrolment};
 pub use entry::{Entry, Status};
 pub use group_list::Groups;
+pub use groups::is_among;
 pub use request::Request;
 pub use row::Row;
 pub use time::Time;

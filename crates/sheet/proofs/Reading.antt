@@ -1,12 +1,9 @@
 -- Bytes read member by member, and what is found in the sheet of a document.
-use Rattle.std.proofs.Common.{◌≡◌, ℕ, zero, suc, ◌+◌, ◌*◌, ◌<◌, ◌≤◌, true, ◌==◌, ◌||◌, List, ◌∷◌, map, length, get_or, drop, Some, None, cond, sym, refl, ap, ◌∙◌, ap₂, subst, ⊎_elim, add-zero, arith}
+use Rattle.std.proofs.Common.{◌≡◌, ℕ, zero, suc, ◌+◌, ◌-◌, ◌*◌, ◌<◌, ◌≤◌, true, ◌==◌, ◌||◌, List, ◌∷◌, ◌++◌, map, length, take, drop, set, Some, None, cond, sym, refl, ap, ◌∙◌, ap₂, append_assoc, add-zero, arith}
 use Rattle.std.proofs.lemmas.Slice.Eq.{bytes_eq-Decides}
-use Rattle.std.proofs.lemmas.Bool.{and_from, and_parts, cases_lt, le-leb, cond-true, eq-eqb}
-use Rattle.std.proofs.lemmas.List.{drop-drop, get_or-drop}
+use Rattle.std.proofs.lemmas.Bool.{and_from, and_parts, le-leb, cond-true, eq-eqb}
+use Rattle.std.proofs.lemmas.List.{take_more_set, drop-drop, get_or-drop}
 use Rattle.std.specs.List.{list_any, range_with_len}
-use Rattle.std.specs.Array.{IsFromFnResultFrom}
-use Rattle.std.specs.Fn.{Called}
-use denote.Param.Members.{Mut}
 use Rattle.sheet.specs.declared.document.Member.{Member}
 use Rattle.sheet.specs.declared.document.Document.{Document}
 use Rattle.mcptt.specs.declared.refusal.Refusal.TheVariants.{ContentFaulty}
@@ -41,19 +38,21 @@ names_from bytes user k zero = refl
 names_from bytes user k (suc n) =
     ap₂ (λ q b. q == user || b) (quad_drop bytes (8 + 5 * k)) (names_from bytes user (k + 1) n)
 
--- an array that a closure makes, where each call leaves the closure and answers by h below n
-pub made_from : {F X : Type 0} (g : Mut F (ℕ × Unit {0}) X) (f : F) (h : ℕ → X) (ys : List X) (n : ℕ)
-    → ((i : ℕ) (y : X) (q : F) → Called g f (i, tt) y q → (q ≡ f) × (i < n → y ≡ h i))
-    → (i m k : ℕ) (d : X) → IsFromFnResultFrom g f ys i m → i ≤ k → k < i + m → k < n → get_or ys k d ≡ h k
-made_from g f h ys n call i zero k d r le lt few = let no_way : ⊥ = omega arith in absurd no_way
-made_from g f h ys n call i (suc m) k d r le lt few =
-    let one = call i r.1 r.0 r.3 in
-    ⊎_elim
-    (λ (more : i < k). made_from g f h ys n call (i + 1) m k d (subst (λ p. IsFromFnResultFrom g p ys (i + 1) m) one.0 r.4) (omega arith) (omega arith) few)
-    (λ (last : k ≤ i).
-    let same : k ≡ i = omega arith in
-    ap (λ j. get_or ys j d) same ∙ (r.2.1 d ∙ (one.1 (omega arith) ∙ ap h (sym same))))
-    (cases_lt i k)
+-- the members from the member i on: the member i, and those from the next on
+pub members_more : (bytes : List ℕ) (i n : ℕ) → i < n
+    → members_of (n - i) (drop (8 + 5 * i) bytes) ≡ member_of (drop (8 + 5 * i) bytes) ∷ members_of (n - (i + 1)) (drop (8 + 5 * (i + 1)) bytes)
+members_more bytes i n lt =
+    let m : n - i ≡ suc (n - (i + 1)) = omega arith in
+    let k : 8 + 5 * (i + 1) ≡ (8 + 5 * i) + 5 = omega arith in
+    rw (m, k, ← drop-drop 5 (8 + 5 * i) bytes)
+
+-- one more member is read
+pub member_read : (ms whole : List Member) (bytes : List ℕ) (i n : ℕ) (x : Member) → i < n → i < length ms
+    → x ≡ member_of (drop (8 + 5 * i) bytes)
+    → take i ms ++ members_of (n - i) (drop (8 + 5 * i) bytes) ≡ whole
+    → take (i + 1) (set ms i x) ++ members_of (n - (i + 1)) (drop (8 + 5 * (i + 1)) bytes) ≡ whole
+member_read ms whole bytes i n x lt within is h =
+    rw (take_more_set ms i x within, append_assoc, is) (rw (members_more bytes i n lt) at h)
 
 -- a sheet is read as the group and the content that it is of, and they are within the rules
 pub found : (bytes : List ℕ) (g : ℕ) (c : Content) (group : ℕ) (d : Document) → keeps_rules g c ≡ true → bytes ≡ sheet_bytes g c

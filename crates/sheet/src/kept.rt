@@ -1,14 +1,13 @@
 //! What a sheet that is kept as bytes says. Any 512 bytes say something; a count above 64 is read as 64.
 ghost use Rattle.std.specs.Prelude.{◌≡◌, ◌+◌, ◌≤◌, min, length, drop};
 ghost use Rattle.sheet.specs.Contents.{content};
-ghost use Rattle.sheet.specs.Decoded.{group_of, member_of, content_of};
+ghost use Rattle.sheet.specs.Decoded.{group_of, member_of, members_of, content_of};
 ghost use Rattle.sheet.specs.Octets.{pair_at};
 ghost use Rattle.sheet.specs.Rules.{names};
 
 use crate::document::{Document, Member};
 use crate::octets::{pair, quad};
 use mcptt::{GroupId, McpttId};
-use std::array;
 
 /// What stands in a place beyond the count.
 const NOBODY: Member = Member {
@@ -57,17 +56,25 @@ pub fn sheet_names(bytes: &[u8; 512], user: McpttId) -> bool
     (0..sheet_count(bytes)).any(|i| quad(bytes, 8 + 5 * i) == user.number)
 }
 
+/// Reads the members of a sheet into as many places as there are.
+fn read_members(bytes: &[u8; 512], places: &mut [Member])
+    requires { length places.old ≤ 64 }
+    ensures { places.new ≡ members_of (length places.old) (drop 8 bytes.now) }
+{
+    // No `array::from_fn`: it would be asked for the places beyond the count too.
+    for (i, place) in places.iter_mut().enumerate() {
+        *place = member(bytes, 8 + 5 * i);
+    }
+}
+
 /// The document of a sheet.
 pub fn sheet_document(bytes: &[u8; 512]) -> Document
     ensures says { content result ≡ content_of bytes.now }
     ensures count { result.count ≤ 64 }
 {
     let count = sheet_count(bytes);
-    let members = array::from_fn(|i| if i < count {
-        member(bytes, 8 + 5 * i)
-    } else {
-        NOBODY
-    });
+    let mut members = [NOBODY; 64];
+    read_members(bytes, &mut members[..count]);
     let marks = bytes[4];
     Document {
         disabled: marks % 2 == 1,

@@ -5,7 +5,7 @@ ghost use Rattle.table.specs.Views.{used, behind, has_room, SameLender, Answers}
 
 use crate::lent::Table;
 use crate::records::{Full, Record};
-use crate::searches::{count_live, find};
+use crate::searches::{count_live, find, is_of};
 
 impl<'a, T: Copy> Table<'a, T> {
     /// The table over slots of which the first `count` are used.
@@ -90,7 +90,7 @@ impl<'a, T: Record> Table<'a, T> {
     /// The place of the first live record of that key.
     pub fn find(&self, key: T::Id, time: u64) -> Option<usize>
         ensures within { IfSome result (λ i. i < self.now.count.now) }
-        ensures first { result ≡ first_place (live_of T.Id.PartialEq.eq T.ident T.until key time) (used self.now) }
+        ensures first { result ≡ first_place (live_of T.ident T.until (T.Id.Key.number key) time) (used self.now) }
     {
         find(self.records(), key, time)
     }
@@ -105,15 +105,15 @@ impl<'a, T: Record> Table<'a, T> {
     /// Removes the records of that key, live or not, closes up, and says whether there were any.
     pub fn remove(&mut self, key: T::Id) -> bool
         ensures any { result ≡ nat_lt self.new.count.now self.old.count.now }
-        ensures count { self.new.count.now ≡ count_by (λ x. not (of_key T.Id.PartialEq.eq T.ident key x)) (used self.old) }
-        ensures used { used self.new ≡ filter (λ x. not (of_key T.Id.PartialEq.eq T.ident key x)) (used self.old) }
+        ensures count { self.new.count.now ≡ count_by (λ x. not (of_key T.ident (T.Id.Key.number key) x)) (used self.old) }
+        ensures used { used self.new ≡ filter (λ x. not (of_key T.ident (T.Id.Key.number key) x)) (used self.old) }
         ensures fewer { self.new.count.now ≤ self.old.count.now }
         ensures long { length self.new.slots.now ≡ length self.old.slots.now }
         ensures behind { behind self.new ≡ drop self.new.count.now self.old.slots.now }
         ensures lender { SameLender self.old self.new }
     {
         let before = *self.count;
-        self.retain(|one| one.key() != key);
+        self.retain(|one| !is_of(one, key));
         *self.count < before
     }
 }

@@ -105,7 +105,7 @@ fn add<T: Copy>(slots: &mut [T], count: &mut usize, new: T) -> Result<(), Full>
 }
 
 /// Keeps those among the first `count` that pass, in their order, and says how many they are.
-fn retain<T: Copy, F: Fn(&T) -> bool>(slots: &mut [T], count: usize, test: F) -> usize
+pub fn retain<T: Copy, F: Fn(&T) -> bool>(slots: &mut [T], count: usize, test: F) -> usize
     requires within { count ≤ length slots.old }
     requires callable { F.IsAlwaysCallable test }
     ensures count { (p : T → Bool) → Answers F.Fn p test → result ≡ count_by p (take count slots.old) }

@@ -16,7 +16,7 @@ struct Entry {
 impl Record for Entry {
     type Id = GroupId;
 
-    ghost ident = { λ e. e.group };
+    ghost ident = { λ e. e.group.number };
 
     ghost until = { λ e. e.end };
 
@@ -47,7 +47,7 @@ impl Row {
     }
 
     fn find(&self, group: GroupId, time: u64) -> Option<usize>
-        ensures { result ≡ first_place (live_of (λ a b. a == b) (λ e. e.group.number) (λ e. e.end) group.number time) (take self.now.count self.now.entries) }
+        ensures { result ≡ first_place (live_of (λ e. e.group.number) (λ e. e.end) group.number time) (take self.now.count self.now.entries) }
     {
         find(&self.entries[..self.count], group, time)
     }
@@ -78,7 +78,7 @@ struct Listing {
 impl Record for Listing {
     type Id = McpttId;
 
-    ghost ident = { λ l. l.user };
+    ghost ident = { λ l. l.user.number };
 
     ghost until = { λ l. l.end };
 
@@ -100,7 +100,7 @@ struct Listings {
 
 impl Listings {
     fn renew(&mut self, new: Listing, time: u64) -> Result<(), Full>
-        ensures { MatchOption (first_place (live_of (λ a b. a == b) (λ l. l.user.number) (λ l. l.end) new.user.number time) (take self.old.count self.old.listings)) ((is_ok result ≡ nat_lt self.old.count 2) × (self.new.count ≡ (if is_ok result then self.old.count + 1 else self.old.count)) × (self.new.listings ≡ (if is_ok result then slice_set self.old.listings self.old.count new else self.old.listings))) (λ i. (is_ok result ≡ true) × (self.new.count ≡ self.old.count) × (self.new.listings ≡ slice_set self.old.listings i new)) }
+        ensures { MatchOption (first_place (live_of (λ l. l.user.number) (λ l. l.end) new.user.number time) (take self.old.count self.old.listings)) ((is_ok result ≡ nat_lt self.old.count 2) × (self.new.count ≡ (if is_ok result then self.old.count + 1 else self.old.count)) × (self.new.listings ≡ (if is_ok result then slice_set self.old.listings self.old.count new else self.old.listings))) (λ i. (is_ok result ≡ true) × (self.new.count ≡ self.old.count) × (self.new.listings ≡ slice_set self.old.listings i new)) }
     {
         let mut table = Table::over(&mut self.listings, &mut self.count);
         match table.find(new.user, time) {
@@ -211,5 +211,19 @@ fn owned_slots(rt: HostRuntime) -> Result<(), Fail> {
     slots.retain(|listing| listing.radios != 0);
     assert_eq!(rt; slots.len(), 2);
     assert!(rt; slots.as_slice()[1].user == McpttId { number: 7 });
+    Ok(())
+}
+
+#[test]
+fn a_slice_without_a_table(rt: HostRuntime) -> Result<(), Fail> {
+    let row = row_of(entry_of(10, 100), entry_of(20, 200), entry_of(10, 300))?;
+    let mut entries = row.entries;
+    let ten = GroupId { number: 10 };
+    assert!(rt; is_of(&entries[0], ten) && !is_of(&entries[1], ten));
+    assert!(rt; is_live_of(&entries[0], ten, 99) && !is_live_of(&entries[0], ten, 100));
+    assert_eq!(rt; position(&entries, |one| one.end == 200), Some(1));
+    assert_eq!(rt; position(&entries, |one| one.end == 400), None);
+    assert_eq!(rt; retain(&mut entries, 3, |one| one.end != 200), 2);
+    assert_eq!(rt; entries[1].end, 300);
     Ok(())
 }
